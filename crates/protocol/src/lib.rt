@@ -1,0 +1,44 @@
+//! The types that every layer of the protocol shares.
+
+mod kind;
+mod message;
+mod record;
+mod refusal;
+
+pub use kind::Kind;
+pub use kind::KindDebug;
+pub use kind::KindEq;
+pub use kind::KindPartialEq;
+pub use message::Commit;
+pub use message::CommitDebug;
+pub use message::CommitEq;
+pub use message::CommitPartialEq;
+pub use message::EVERYONE;
+pub use message::Join;
+pub use message::JoinDebug;
+pub use message::JoinEq;
+pub use message::JoinPartialEq;
+pub use message::Message;
+pub use message::MessageDebug;
+pub use message::MessageDisplay;
+pub use message::MessageEq;
+pub use message::MessagePartialEq;
+pub use message::Publication;
+pub use message::PublicationDebug;
+pub use message::PublicationEq;
+pub use message::PublicationPartialEq;
+pub use message::Response;
+pub use message::ResponseDebug;
+pub use message::ResponseEq;
+pub use message::ResponsePartialEq;
+pub use message::Term;
+pub use message::Value;
+pub use message::Version;
+pub use record::Record;
+pub use record::RecordDebug;
+pub use record::RecordEq;
+pub use record::RecordPartialEq;
+pub use refusal::Refusal;
+pub use refusal::RefusalDebug;
+pub use refusal::RefusalEq;
+pub use refusal::RefusalPartialEq;
