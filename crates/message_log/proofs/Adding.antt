@@ -23,7 +23,7 @@ use Rattle.message_log.specs.declared.fault.Fault.the-variants.{IllFormedLog, 
 use Rattle.message_log.specs.Layout.{put, in-two, two, capacity-of, count-of, log-length, legal-capacity, well-formed, kind-place, body-place, body-length}
 use Rattle.message_log.specs.Log.{Stored, stored-at, entries, same-stored, position, added, add-unless, append-to, Outcome, cleared}
 use Rattle.message_log.specs.Added.{Empty, Holds, with-entry}
-use Rattle.message_log.proofs.Puts.{length-put}
+use Rattle.message_log.proofs.Puts.{length-put, byte-put}
 use Rattle.message_log.proofs.PutThenRead as read
 use Rattle.message_log.proofs.RoundTrip.{two-back}
 
@@ -108,78 +108,88 @@ module _ (bytes : List ℕ) (x : Stored) (log : well-formed bytes ≡ true) (roo
   fits-count : 2 + 2 ≤ length two-writes
   fits-count = omega (arith, F .long, long-two)
 
-  long-after : length (added bytes x) ≡ length bytes
+  abbrev after : List ℕ
+  after = put 2 (in-two (m + 1)) two-writes
+
+  after-is : added bytes x ≡ after
+  after-is = ap (put 2 (in-two (m + 1))) (byte-put (kind-place m) one (x .kind) (omega (arith, fits-kind)))
+
+  long-after : length after ≡ length bytes
   long-after = length-put 2 (in-two (m + 1)) two-writes fits-count ∙ long-two
 
-  size-byte : (j : ℕ) → j < 2 → getD (added bytes x) j 0 ≡ getD bytes j 0
+  size-byte : (j : ℕ) → j < 2 → getD after j 0 ≡ getD bytes j 0
   size-byte j l =
       read.below 2 (in-two (m + 1)) two-writes fits-count j l
       ∙ read.below (kind-place m) (x .kind ∷ []) one fits-kind j (omega arith)
       ∙ read.below (body-place c m) (x .body) bytes fits-body j (omega arith)
 
-  capacity-kept : capacity-of (added bytes x) ≡ c
+  capacity-kept : capacity-of after ≡ c
   capacity-kept = ap₂ (λ (a b : ℕ). a * 256 + b) (size-byte 0 (omega arith)) (size-byte 1 (omega arith))
 
-  count-raised : count-of (added bytes x) ≡ m + 1
+  count-raised : count-of after ≡ m + 1
   count-raised =
       ap₂ (λ (a b : ℕ). a * 256 + b)
       (read.inside 2 (in-two (m + 1)) two-writes fits-count 0 (omega arith))
       (read.inside 2 (in-two (m + 1)) two-writes fits-count 1 (omega arith))
       ∙ two-back (m + 1) (omega (arith, F .few))
 
-  still-a-log : well-formed (added bytes x) ≡ true
+  still-a-log : well-formed after ≡ true
   still-a-log =
       and-from _ _ (ap legal-capacity capacity-kept ∙ F .legal)
       (and-from _ _
       (eq-eqb _ _ (long-after ∙ F .long ∙ ap log-length (sym capacity-kept)))
       (le-leb _ _ (omega (arith, count-raised, capacity-kept))))
 
-  kept-entry : (k : ℕ) → k < m → stored-at (added bytes x) k ≡ stored-at bytes k
+  kept-entry : (k : ℕ) → k < m → stored-at after k ≡ stored-at bytes k
   kept-entry k l =
       ap₂ (λ (a : ℕ) (b : List ℕ). record { kind = a; body = b })
       (read.above 2 (in-two (m + 1)) two-writes fits-count (kind-place k) (omega arith)
       ∙ read.below (kind-place m) (x .kind ∷ []) one fits-kind (kind-place k) (omega arith)
       ∙ read.below (body-place c m) (x .body) bytes fits-body (kind-place k) (omega arith))
-      (ap (λ (a : ℕ). take 26 (drop (body-place a k) (added bytes x))) capacity-kept
+      (ap (λ (a : ℕ). take 26 (drop (body-place a k) after)) capacity-kept
       ∙ read.apart 2 (in-two (m + 1)) two-writes fits-count 26 (body-place c k) (inr (omega arith))
       ∙ read.apart (kind-place m) (x .kind ∷ []) one fits-kind 26 (body-place c k) (inr (omega arith))
       ∙ read.apart (body-place c m) (x .body) bytes fits-body 26 (body-place c k) (inl (omega arith)))
 
-  new-entry : stored-at (added bytes x) m ≡ x
+  new-entry : stored-at after m ≡ x
   new-entry =
       let place : kind-place m + 0 ≡ kind-place m = omega arith in
       ap₂ (λ (a : ℕ) (b : List ℕ). record { kind = a; body = b })
       (read.above 2 (in-two (m + 1)) two-writes fits-count (kind-place m) (omega arith)
       ∙ ap (λ (a : ℕ). getD two-writes a 0) (sym place)
       ∙ read.inside (kind-place m) (x .kind ∷ []) one fits-kind 0 (omega arith))
-      (ap (λ (a : ℕ). take 26 (drop (body-place a m) (added bytes x))) capacity-kept
+      (ap (λ (a : ℕ). take 26 (drop (body-place a m) after)) capacity-kept
       ∙ read.apart 2 (in-two (m + 1)) two-writes fits-count 26 (body-place c m) (inr (omega arith))
       ∙ read.apart (kind-place m) (x .kind ∷ []) one fits-kind 26 (body-place c m) (inr (omega arith))
       ∙ ap (λ (a : ℕ). take a (drop (body-place c m) one)) (sym whole)
       ∙ read.there (body-place c m) (x .body) bytes fits-body)
 
-  one-more : entries (added bytes x) ≡ entries bytes ++ x ∷ []
+  one-more : entries after ≡ entries bytes ++ x ∷ []
   one-more =
-      ap (λ (n : ℕ). map (stored-at (added bytes x)) (counting 0 n)) count-raised
-      ∙ map-counting-more (stored-at (added bytes x)) 0 m m (omega arith)
+      ap (λ (n : ℕ). map (stored-at after) (counting 0 n)) count-raised
+      ∙ map-counting-more (stored-at after) 0 m m (omega arith)
       ∙ ap₂ (λ (a : List Stored) (b : Stored). a ++ b ∷ [])
-      (same-below (stored-at (added bytes x)) (stored-at bytes) m 0
+      (same-below (stored-at after) (stored-at bytes) m 0
       (λ k l.
       let e : 0 + k ≡ k = omega arith in
-      ap (stored-at (added bytes x)) e ∙ kept-entry k l ∙ ap (stored-at bytes) (sym e)))
+      ap (stored-at after) e ∙ kept-entry k l ∙ ap (stored-at bytes) (sym e)))
       new-entry
 
   -- x was not there, and is added
   pub holds-added : position (same-stored x) (entries bytes) ≡ None → Holds bytes (added bytes x) x m
-  holds-added none = record {
-    log = still-a-log;
-    room = capacity-kept;
-    list = one-more
-        ∙ sym (cond-false (isSome (position (same-stored x) (entries bytes))) _ _ (ap isSome none));
-    lowest = ap (position (same-stored x)) one-more
-        ∙ position-push (same-stored x) (entries bytes) x none (same-itself x)
-        ∙ ap Some (length-map-counting (stored-at bytes) 0 m);
-  }
+  holds-added none =
+      let holds : Holds bytes after x m =
+      record {
+        log = still-a-log;
+        room = capacity-kept;
+        list = one-more
+            ∙ sym (cond-false (isSome (position (same-stored x) (entries bytes))) _ _ (ap isSome none));
+        lowest = ap (position (same-stored x)) one-more
+            ∙ position-push (same-stored x) (entries bytes) x none (same-itself x)
+            ∙ ap Some (length-map-counting (stored-at bytes) 0 m);
+      }
+      in
+      subst (λ (b : List ℕ). Holds bytes b x m) (sym after-is) holds
 
 -- x was there
 pub holds-found : (bytes : List ℕ) (x : Stored) (e : ℕ) → well-formed bytes ≡ true

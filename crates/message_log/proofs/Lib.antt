@@ -1,4 +1,4 @@
--- a write to a part of a slice, as the definitions say it
+-- bytes that are put in the place of others
 pub mod Puts
 -- reading what was written, and writing what was read
 pub mod RoundTrip

@@ -1,27 +1,14 @@
 -- The lowest entry that is equal to another.
-use Prim.Native.Nat.{ℕ, zero, suc, _+_, _<_, _≤_}
-use mathlib.Core.Bool.{Bool, true, false, _&&_}
-use mathlib.Core.List.{List, map}
-use mathlib.Core.Path.{_≡_, refl, sym, ap, _∙_}
-use lib.Dec.{eqb}
+use Prim.Native.Nat.{ℕ, zero, suc, _+_, _<_}
+use mathlib.Core.Bool.{Bool, true, false}
+use mathlib.Core.List.{map}
+use mathlib.Core.Path.{_≡_, refl, ap, _∙_}
 use native.Mathlib.Omega.{arith}
 use Rattle.std.specs.Iters.{counting}
 use Rattle.std.specs.Options.{mapped}
-use Rattle.std.specs.Orderings.{Decides}
-use Rattle.std.specs.declared.option.Option.{Option}
 use Rattle.std.specs.declared.option.Option.the-variants.{Some, None}
-use Rattle.std.specs.shelf.Text.{sameBytes}
-use Rattle.std.proofs.shelf.Equals.{sameBytes-decides}
-use Rattle.std.proofs.shelf.Tests.{cond-true, cond-false, eq-eqb}
-use Rattle.std.proofs.shelf.Ways.{same-from-decides, decides-like}
+use Rattle.std.proofs.shelf.Tests.{cond-true, cond-false}
 use Rattle.message_log.specs.Log.{position}
-
--- kinds are equal, and then bodies are compared
-pub bodies-compared : (kind other : ℕ) (body part : List ℕ) (r : Bool) → other ≡ kind → Decides r (part ≡ body)
-    → r ≡ (eqb kind other && sameBytes body part)
-bodies-compared kind other body part r e d =
-    same-from-decides r (sameBytes body part) (decides-like r sym sym d) (sameBytes-decides body part)
-    ∙ sym (ap (λ (b : Bool). b && sameBytes body part) (eq-eqb kind other (sym e)))
 
 module _ {X : Type 0} (test : X → Bool) (f : ℕ → X) where
   -- a test that fails at the n places from a on has no place there

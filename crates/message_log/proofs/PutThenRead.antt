@@ -5,7 +5,7 @@ use mathlib.Core.Path.{_≡_, refl, sym, ap, _∙_}
 use mathlib.Core.Logic.{_⊎_, ⊎-elim}
 use lib.ListN.{length, getD, take, drop}
 use native.Mathlib.Omega.{arith}
-use Rattle.std.proofs.shelf.Lists.{getD-append-left, getD-append-right, getD-take, getD-drop, length-take, length-drop, length-take-le, ext-getD}
+use Rattle.std.proofs.shelf.Lists.{getD-append-left, getD-append-right, getD-take, getD-drop, length-take, length-drop, length-take-le, drop-drop, ext-getD}
 use Rattle.message_log.specs.Layout.{put}
 use Rattle.message_log.proofs.Puts.{length-put}
 
@@ -25,6 +25,10 @@ same-parts xs ys n j e h =
     part-at xs n j k b ∙ h k b ∙ sym (part-at ys n j k b))
 
 module _ (i : ℕ) (new bytes : List ℕ) (fits : i + length new ≤ length bytes) where
+  -- what follows the new bytes
+  abbrev rest : List ℕ
+  rest = drop (length new) (drop i bytes)
+
   front : length (take i bytes) ≡ i
   front = length-take-le i bytes (omega arith)
 
@@ -34,17 +38,18 @@ module _ (i : ℕ) (new bytes : List ℕ) (fits : i + length new ≤ length byte
   pub above : (j : ℕ) → i + length new ≤ j → getD (put i new bytes) j 0 ≡ getD bytes j 0
   above j l =
       let e : i + length new + (j - i - length new) ≡ j = omega arith in
-      getD-append-right (take i bytes) (new ++ drop (i + length new) bytes) i j 0 front (omega arith)
-      ∙ getD-append-right new (drop (i + length new) bytes) (length new) (j - i) 0 refl (omega arith)
+      getD-append-right (take i bytes) (new ++ rest) i j 0 front (omega arith)
+      ∙ getD-append-right new rest (length new) (j - i) 0 refl (omega arith)
+      ∙ ap (λ (d : List ℕ). getD d (j - i - length new) 0) (drop-drop (length new) i bytes)
       ∙ getD-drop (i + length new) bytes (j - i - length new) 0
       ∙ ap (λ (n : ℕ). getD bytes n 0) e
 
   pub inside : (k : ℕ) → k < length new → getD (put i new bytes) (i + k) 0 ≡ getD new k 0
   inside k l =
       let e : i + k - i ≡ k = omega arith in
-      getD-append-right (take i bytes) (new ++ drop (i + length new) bytes) i (i + k) 0 front (omega arith)
-      ∙ ap (λ (n : ℕ). getD (new ++ drop (i + length new) bytes) n 0) e
-      ∙ getD-append-left new (drop (i + length new) bytes) 0 k l
+      getD-append-right (take i bytes) (new ++ rest) i (i + k) 0 front (omega arith)
+      ∙ ap (λ (n : ℕ). getD (new ++ rest) n 0) e
+      ∙ getD-append-left new rest 0 k l
 
   -- a part that begins after the new bytes, or ends before them
   pub apart : (n j : ℕ) → (j + n ≤ i) ⊎ (i + length new ≤ j) → take n (drop j (put i new bytes)) ≡ take n (drop j bytes)

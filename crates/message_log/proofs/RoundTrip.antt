@@ -150,7 +150,7 @@ module _ (body : List ℕ) (long : length body ≡ 26) (bytes : (i : ℕ) → ge
       ∙ sym (drop-more body 0 0 (omega arith))
 
 -- The fields of a legal message keep the rules of its kind, and say that message again.
-legal-valid : (n : ℕ) (m : Message) → legal-message n m ≡ true → valid n (kind-of m) (fields-of m) ≡ true
+legal-valid : (n : ℕ) (m : Message ℕ) → legal-message n m ≡ true → valid n (kind-of m) (fields-of m) ≡ true
 legal-valid n (Join m) h =
     let p = and-parts (ltb (m .source) n) (ltb (m .destination) n) h in
     and-from _ _ (p .0) (and-from _ _ (p .1) refl)
@@ -160,7 +160,7 @@ legal-valid n (Response m) h =
     and-from _ _ (p .0) (and-from _ _ (p .1) refl)
 legal-valid n (Commit m) h = and-from _ _ h refl
 
-message-again : (m : Message) → message-with (kind-of m) (fields-of m) ≡ m
+message-again : (m : Message ℕ) → message-with (kind-of m) (fields-of m) ≡ m
 message-again (Join m) = refl
 message-again (Publication m) = refl
 message-again (Response m) = refl
@@ -172,7 +172,7 @@ read-known n kind.Publication body = refl
 read-known n kind.Response body = refl
 read-known n kind.Commit body = refl
 
-pub reads-back : (m : Message) (body : List ℕ) → length body ≡ 26 → fields-in body ≡ fields-of m → Reads-back m body
+pub reads-back : (m : Message ℕ) (body : List ℕ) → length body ≡ 26 → fields-in body ≡ fields-of m → Reads-back m body
 reads-back m body long e n h =
     read-known n (kind-of m) body
     ∙ read-valid n (kind-of m) body long (ap (valid n (kind-of m)) e ∙ legal-valid n m h)
@@ -241,12 +241,12 @@ kind-again kind.Response f = refl
 kind-again kind.Commit f = refl
 
 -- what reading a body of a kind accepts
-record Accepted (n : ℕ) (k : Kind) (body : List ℕ) (m : Message) : Type 0 where
+record Accepted (n : ℕ) (k : Kind) (body : List ℕ) (m : Message ℕ) : Type 0 where
   long : length body ≡ 26
   rules : valid n k (fields-in body) ≡ true
   says : m ≡ message-with k (fields-in body)
 
-accepted : (n : ℕ) (k : Kind) (body : List ℕ) (m : Message) → read-body n k body ≡ Ok m → Accepted n k body m
+accepted : (n : ℕ) (k : Kind) (body : List ℕ) (m : Message ℕ) → read-body n k body ≡ Ok m → Accepted n k body m
 unfolding read-body
 accepted n k body m h = go (eqb (length body) 26 && valid n k (fields-in body)) refl
   where
@@ -267,12 +267,12 @@ known-number n kind.Publication h = grind (arith, tells)
 known-number n kind.Response h = grind (arith, tells)
 known-number n kind.Commit h = grind (arith, tells)
 
-pub writes-back : (n number : ℕ) (k : Kind) (body : List ℕ) (m : Message) → ((i : ℕ) → getD body i 0 < 256)
+pub writes-back : (n number : ℕ) (k : Kind) (body : List ℕ) (m : Message ℕ) → ((i : ℕ) → getD body i 0 < 256)
     → kind-of-number number ≡ Some k → read-body n k body ≡ Ok m → Writes-back n number body m
 writes-back n number k body m bytes known read =
     let a = accepted n k body m read in
     record {
-      same-kind = ap (λ (x : Message). kind-number (kind-of x)) (a .says) ∙ ap kind-number (kind-again k (fields-in body))
+      same-kind = ap (λ (x : Message ℕ). kind-number (kind-of x)) (a .says) ∙ ap kind-number (kind-again k (fields-in body))
           ∙ known-number number k known;
       same-body = ap body-of (a .says) ∙ ap body-with (fields-again n k (fields-in body) (a .rules))
           ∙ body-back body (a .long) bytes;

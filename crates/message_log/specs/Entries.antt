@@ -26,10 +26,10 @@ entry-body (Publication body) = now body
 entry-body (Response body) = now body
 entry-body (Commit body) = now body
 
-abbrev pub entry-message : Entry → Message
+abbrev pub entry-message : Entry → Message ℕ
 entry-message entry = message-with (entry-kind entry) (fields-in (entry-body entry))
 
 -- What reading answers: an entry that says the message and holds the very bytes of the body, or the fault.
-abbrev pub Answered : Result Message Fault → List ℕ → Result Entry Fault → Type 0
+abbrev pub Answered : Result (Message ℕ) Fault → List ℕ → Result Entry Fault → Type 0
 Answered message body (Ok entry) = (message ≡ Ok (entry-message entry)) × (entry-body entry ≡ body)
 Answered message body (Err fault) = message ≡ Err fault

@@ -23,7 +23,7 @@ in-four n = (n / 16777216 % 256) ∷ (n / 65536 % 256) ∷ (n / 256 % 256) ∷ (
 
 -- the bytes with `new` in the place of those from place i on
 abbrev pub put : ℕ → List ℕ → List ℕ → List ℕ
-put i new bytes = take i bytes ++ (new ++ drop (i + length new) bytes)
+put i new bytes = take i bytes ++ (new ++ drop (length new) (drop i bytes))
 
 -- The sizes of a log: how many entries it has room for, and how many it has.
 abbrev pub capacity-of : List ℕ → ℕ

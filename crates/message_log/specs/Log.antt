@@ -4,7 +4,7 @@ use mathlib.Core.Bool.{Bool, true, false, cond, _&&_}
 use mathlib.Core.List.{List, [], _∷_, _++_, map}
 use denote.Ref.{now}
 use lib.Dec.{eqb, ltb}
-use lib.ListN.{length, getD, take, drop, replicate}
+use lib.ListN.{length, getD, set, take, drop, replicate}
 use Rattle.std.specs.Iters.{counting}
 use Rattle.std.specs.Options.{mapped}
 use Rattle.std.specs.shelf.Text.{sameBytes}
@@ -64,7 +64,7 @@ shown (Ok found) = Ok (mapped shows found)
 shown (Err fault) = Err fault
 
 -- what a message is stored as
-abbrev pub stored-as : Message → Stored
+abbrev pub stored-as : Message ℕ → Stored
 stored-as m = record { kind = kind-number (kind-of m); body = body-of m }
 
 -- entries are equal in kind and body
@@ -81,11 +81,11 @@ pub record Outcome (X : Type 0) : Type 0 where
   pub answer : Result X Fault
   pub bytes : List ℕ
 
--- a log with one more entry: its kind and body at the count, and the count raised by one
+-- a log with one more entry: its body and kind at the count, and the count raised by one
 abbrev pub added : List ℕ → Stored → List ℕ
 added bytes x =
     put 2 (in-two (count-of bytes + 1))
-    (put (kind-place (count-of bytes)) (x .kind ∷ []) (put (body-place (capacity-of bytes) (count-of bytes)) (x .body) bytes))
+    (set (put (body-place (capacity-of bytes) (count-of bytes)) (x .body) bytes) (kind-place (count-of bytes)) (x .kind))
 
 -- Adding an entry to a well-formed log: an equal entry is found, the lowest, and nothing is written; else it is added
 -- if there is room; else the log is full, and nothing is written.
@@ -117,12 +117,12 @@ clear-to bytes c =
 
 -- The message in entry e of a log, in a cluster of n nodes; or the refusal: 2 the bytes are no log, 3 there is no such
 -- entry, 4 its kind is unknown, 5 its body is against the rules, in this order.
-abbrev pub read-as : ℕ → Stored → Result Message Refusal
+abbrev pub read-as : ℕ → Stored → Result (Message ℕ) Refusal
 read-as n s = elim (read-message n (s .kind) (s .body)) [ Ok m ↦ Ok m | Err fault ↦ Err (refusal-of fault) ]
 
-abbrev pub found-as : ℕ → Option Stored → Result Message Refusal
+abbrev pub found-as : ℕ → Option Stored → Result (Message ℕ) Refusal
 found-as n None = Err NoSuchEntry
 found-as n (Some s) = read-as n s
 
-abbrev pub message-at : ℕ → List ℕ → ℕ → Result Message Refusal
+abbrev pub message-at : ℕ → List ℕ → ℕ → Result (Message ℕ) Refusal
 message-at n bytes e = elim (look-up-in bytes e) [ Ok found ↦ found-as n found | Err fault ↦ Err (refusal-of fault) ]

@@ -45,7 +45,7 @@ valid n kind.Commit f =
     ltb (f .source) n && (eqb (f .destination) everyone && (no-base f && no-content f))
 
 -- the message that the fields of a valid body say
-abbrev pub message-with : Kind → Fields → Message
+abbrev pub message-with : Kind → Fields → Message ℕ
 message-with kind.Join f = Join (record {
   source = f .source;
   destination = f .destination;
@@ -72,7 +72,7 @@ message-with kind.Response f = Response (record {
 message-with kind.Commit f = Commit (record { source = f .source; term = f .term; version = f .version })
 
 -- the fields of a message, those that its kind does not use at zero
-abbrev pub fields-of : Message → Fields
+abbrev pub fields-of : Message ℕ → Fields
 fields-of (Join m) = record {
   source = m .source;
   destination = m .destination;
@@ -119,24 +119,24 @@ fields-of (Commit m) = record {
 }
 
 -- the 26 bytes of a message
-abbrev pub body-of : Message → List ℕ
+abbrev pub body-of : Message ℕ → List ℕ
 body-of m = body-with (fields-of m)
 
 -- Reading a body of kind k in a cluster of n nodes: it has its length and keeps the rules, or the fault is an invalid body.
-unfoldable pub read-body : ℕ → Kind → List ℕ → Result Message Fault
+unfoldable pub read-body : ℕ → Kind → List ℕ → Result (Message ℕ) Fault
 read-body n k body =
     cond (eqb (length body) body-length && valid n k (fields-in body)) (Ok (message-with k (fields-in body))) (Err InvalidBody)
 
 -- Reading a kind and a body: the kind is one of the four, or the fault is an unknown kind; then the body.
-abbrev pub read-message : ℕ → ℕ → List ℕ → Result Message Fault
+abbrev pub read-message : ℕ → ℕ → List ℕ → Result (Message ℕ) Fault
 read-message n number body = elim (kind-of-number number) [ None ↦ Err UnknownKind | Some k ↦ read-body n k body ]
 
 -- One to one: a legal message is read back from its kind and its bytes, ..
-abbrev pub Reads-back : Message → List ℕ → Type 0
+abbrev pub Reads-back : Message ℕ → List ℕ → Type 0
 Reads-back m body = (n : ℕ) → legal-message n m ≡ true → read-message n (kind-number (kind-of m)) body ≡ Ok m
 
 -- .. and a kind and a body that are accepted are the kind and the bytes of the message that was read, which is legal.
-pub record Writes-back (n number : ℕ) (body : List ℕ) (m : Message) : Type 0 where
+pub record Writes-back (n number : ℕ) (body : List ℕ) (m : Message ℕ) : Type 0 where
   pub same-kind : kind-number (kind-of m) ≡ number
   pub same-body : body-of m ≡ body
   pub legal : legal-message n m ≡ true

@@ -2,10 +2,11 @@
 ghost use Prim.Native.Nat.{ℕ, _+_, _*_, _<_, _≤_};
 ghost use mathlib.Core.Bool.{true};
 ghost use mathlib.Core.Path.{_≡_};
-ghost use lib.ListN.{length};
+ghost use lib.ListN.{length, take, drop};
 ghost use Rattle.std.specs.Vec.{made};
+ghost use Rattle.std.specs.shelf.Text.{sameBytes};
 ghost use Rattle.message_log.specs.Added.{Holds};
-ghost use Rattle.message_log.specs.Layout.{well-formed, capacity-of, count-of};
+ghost use Rattle.message_log.specs.Layout.{in-two, put, well-formed, capacity-of, count-of, body-length};
 ghost use Rattle.message_log.specs.Log.{Stored, stored-at, entries, same-stored, position, added, append-entry, append-to, stored-as};
 use crate::encoding::encode;
 use crate::fault::Fault;
@@ -73,8 +74,16 @@ fn holds(bytes: &[u8], capacity: u16, number: u16, kind: u8, body: &[u8]) -> boo
     requires long { ⌜ length (now bytes) ≡ 4 + 27 * capacity ⌝ }
     ensures { λ r. ⌜ r ≡ same-stored (record { kind = kind; body = now (body .entry) }) (stored-at (now (bytes .entry)) number) ⌝ }
 {
-    let at = body_place(capacity, number);
-    bytes[SIZES_LENGTH + usize::from(number)] == kind && &bytes[at..at + BODY_LENGTH] == body
+    bytes[SIZES_LENGTH + usize::from(number)] == kind
+        && has_body(bytes, body_place(capacity, number), body)
+}
+
+// Whether this body begins at this place.
+fn has_body(bytes: &[u8], at: usize, body: &[u8]) -> bool
+    requires { ⌜ at + 26 ≤ length (now bytes) ⌝ }
+    ensures { λ r. ⌜ r ≡ sameBytes (now (body .entry)) (take body-length (drop at (now (bytes .entry)))) ⌝ }
+{
+    &bytes[at..at + BODY_LENGTH] == body
 }
 
 // Writes a new entry at the count, and raises the count.
@@ -85,8 +94,23 @@ fn write(bytes: &mut [u8], capacity: u16, count: u16, kind: u8, body: &[u8; 26])
     requires long { ⌜ length (now bytes) ≡ 4 + 27 * capacity ⌝ }
     ensures { λ _. ⌜ now (bytes .exit) ≡ added (now (bytes .entry)) (record { kind = kind; body = now (body .entry) }) ⌝ }
 {
-    let at = body_place(capacity, count);
-    bytes[at..at + BODY_LENGTH].copy_from_slice(body);
+    put_body(bytes, body_place(capacity, count), body);
     bytes[SIZES_LENGTH + usize::from(count)] = kind;
-    bytes[2..4].copy_from_slice(&(count + 1).to_be_bytes());
+    put_count(bytes, count + 1);
+}
+
+// Writes a body to its place.
+fn put_body(bytes: &mut [u8], at: usize, body: &[u8; 26])
+    requires { ⌜ at + 26 ≤ length (now bytes) ⌝ }
+    ensures { λ _. ⌜ now (bytes .exit) ≡ put at (now (body .entry)) (now (bytes .entry)) ⌝ }
+{
+    bytes[at..at + BODY_LENGTH].copy_from_slice(body);
+}
+
+// Writes the count.
+fn put_count(bytes: &mut [u8], count: u16)
+    requires { ⌜ 4 ≤ length (now bytes) ⌝ }
+    ensures { λ _. ⌜ now (bytes .exit) ≡ put 2 (in-two count) (now (bytes .entry)) ⌝ }
+{
+    bytes[2..4].copy_from_slice(&count.to_be_bytes());
 }

@@ -39,7 +39,7 @@ pub struct Fields {
 
 impl Fields {
     /// The numbers in a body.
-    pub fn from_body(body: &[u8; 26]) -> Fields
+    pub(crate) fn from_body(body: &[u8; 26]) -> Fields
         ensures { λ r. ⌜ r ≡ fields-in (now (body .entry)) ⌝ }
     {
         Fields {
@@ -56,7 +56,7 @@ impl Fields {
     }
 
     /// The body with these numbers.
-    pub fn to_body(&self) -> [u8; 26]
+    pub(crate) fn to_body(&self) -> [u8; 26]
         ensures bytes { λ r. ⌜ r ≡ body-with (now (self .entry)) ⌝ }
         ensures one_to_one { λ r. ⌜ fields-in r ≡ now (self .entry) ⌝ }
     {
@@ -79,7 +79,7 @@ impl Fields {
 
     /// Whether each field keeps the rule that a body of this kind has for it, in a cluster of
     /// `nodes` nodes.
-    pub fn are_valid(&self, kind: Kind, nodes: u8) -> bool
+    pub(crate) fn are_valid(&self, kind: Kind, nodes: u8) -> bool
         ensures { λ r. ⌜ r ≡ valid nodes kind (now (self .entry)) ⌝ }
     {
         self.source < nodes

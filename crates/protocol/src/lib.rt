@@ -4,6 +4,7 @@ mod kind;
 mod message;
 mod record;
 mod refusal;
+mod volatile;
 
 pub use kind::Kind;
 pub use kind::KindDebug;
@@ -42,3 +43,7 @@ pub use refusal::Refusal;
 pub use refusal::RefusalDebug;
 pub use refusal::RefusalEq;
 pub use refusal::RefusalPartialEq;
+pub use volatile::Volatile;
+pub use volatile::VolatileDebug;
+pub use volatile::VolatileEq;
+pub use volatile::VolatilePartialEq;

@@ -31,13 +31,13 @@ pub struct Join {
 /// `source`, the leader of `term`, proposes a value and a configuration to every node. The base
 /// is what it had accepted last, and `committed_configuration` the last one that it knows decided.
 #[derive(Clone, Copy, PartialEq, Eq, Debug)]
-pub struct Publication {
+pub struct Publication<V = Value> {
     pub source: u8,
     pub term: Term,
     pub version: Version,
     pub base_term: Term,
     pub base_version: Version,
-    pub value: Value,
+    pub value: V,
     pub configuration: NodeSet,
     pub committed_configuration: NodeSet,
 }
@@ -61,14 +61,14 @@ pub struct Commit {
 
 /// A message between nodes.
 #[derive(Clone, Copy, PartialEq, Eq, Debug)]
-pub enum Message {
+pub enum Message<V = Value> {
     Join(Join),
-    Publication(Publication),
+    Publication(Publication<V>),
     Response(Response),
     Commit(Commit),
 }
 
-impl Message {
+impl<V> Message<V> {
     /// The message's kind.
     pub fn kind(&self) -> Kind
         ensures { λ r. ⌜ r ≡ kind-of (now (self .entry)) ⌝ }
@@ -83,7 +83,7 @@ impl Message {
 }
 
 /// A message in a line of words: what it is, from whom, to whom, and its numbers.
-pub impl fmt::Display for Message as MessageDisplay {
+pub impl<V: fmt::Display> fmt::Display for Message<V> as MessageDisplay {
     fn fmt<W: fmt::Write>(&self, f: &mut fmt::Formatter<W>) -> fmt::Result {
         match self {
             Message::Join(m) => write!(

@@ -22,7 +22,7 @@ use Rattle.message_log.proofs.entry.Entry.read.Needs as need
 module _ (n number : ℕ) (k : Kind) (body : List ℕ) (known : kind-of-number number ≡ Some k) where
   read-is : read-message n number body ≡ read-body n k body
   read-is =
-      ap (λ (o : Option Kind). elim o as (λ _. Result Message Fault) [ None ↦ Err UnknownKind | Some j ↦ read-body n j body ]) known
+      ap (λ (o : Option Kind). elim o as (λ _. Result (Message ℕ) Fault) [ None ↦ Err UnknownKind | Some j ↦ read-body n j body ]) known
 
   answers : (r : Result Entry Fault) → Answered (read-body n k body) body r → Answered (read-message n number body) body r
   answers (Ok e) h = (read-is ∙ h .0, h .1)
