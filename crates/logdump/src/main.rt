@@ -8,7 +8,11 @@ use std::error::AnyError;
 use std::fs;
 
 fn main(rt: LibcRuntime) -> Result<(), AnyError> {
-    rt.report(run(&rt))
+    let done = run(&rt);
+    if let Err(error) = &done {
+        eprintln!(rt, "logdump: {error}")?;
+    }
+    done
 }
 
 fn run(rt: &LibcRuntime) -> Result<(), AnyError> {
@@ -17,13 +21,13 @@ fn run(rt: &LibcRuntime) -> Result<(), AnyError> {
     let (Some(file), Some(nodes), None) = (args.next(), args.next(), args.next()) else {
         return Err("usage: logdump FILE N".into());
     };
-    let Ok(nodes) = nodes.as_str().parse::<u8>() else {
-        return Err("N is not a number of nodes from 0 to 16".into());
+    let nodes = match nodes.as_str().parse::<u8>() {
+        Ok(nodes) if nodes <= MAX_NODES => nodes,
+        _ => return Err("N is not a number of nodes from 0 to 16".into()),
     };
-    if nodes > MAX_NODES {
-        return Err("N is not a number of nodes from 0 to 16".into());
+    match fs::read(rt, file.as_str()) {
+        Ok(bytes) => print_log(rt, bytes.as_slice(), nodes)?,
+        Err(error) => return Err(format!(rt.alloc(), "cannot read {file}: {error}")?.into()),
     }
-    let bytes = fs::read(rt, file.as_str())?;
-    print_log(rt, bytes.as_slice(), nodes)?;
     Ok(())
 }
