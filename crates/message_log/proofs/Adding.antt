@@ -21,7 +21,8 @@ use Rattle.std.proofs.shelf.Tests.{and-parts, and-from, leb-true, le-leb, eqb-t
 use Rattle.message_log.specs.declared.fault.Fault.{Fault}
 use Rattle.message_log.specs.declared.fault.Fault.the-variants.{IllFormedLog, LogFull}
 use Rattle.message_log.specs.Layout.{put, in-two, two, capacity-of, count-of, log-length, legal-capacity, well-formed, kind-place, body-place, body-length}
-use Rattle.message_log.specs.Log.{Stored, stored-at, entries, same-stored, position, added, add-unless, append-to, Outcome, cleared}
+use Rattle.protocol.specs.Positions.{position}
+use Rattle.message_log.specs.Log.{Stored, stored-at, entries, same-stored, added, add-unless, append-to, Outcome, cleared}
 use Rattle.message_log.specs.Added.{Empty, Holds, with-entry}
 use Rattle.message_log.proofs.Puts.{length-put, byte-put}
 use Rattle.message_log.proofs.PutThenRead as read

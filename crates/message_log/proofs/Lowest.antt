@@ -8,7 +8,8 @@ use Rattle.std.specs.Iters.{counting}
 use Rattle.std.specs.Options.{mapped}
 use Rattle.std.specs.declared.option.Option.the-variants.{Some, None}
 use Rattle.std.proofs.shelf.Tests.{cond-true, cond-false}
-use Rattle.message_log.specs.Log.{position}
+use Rattle.protocol.specs.Positions.{position}
+use Rattle.message_log.specs.Log.{}
 
 module _ {X : Type 0} (test : X → Bool) (f : ℕ → X) where
   -- a test that fails at the n places from a on has no place there

@@ -6,7 +6,8 @@ use mathlib.Core.Path.{_≡_}
 use Rattle.std.specs.Options.{isSome}
 use Rattle.std.specs.declared.option.Option.the-variants.{Some}
 use Rattle.message_log.specs.Layout.{well-formed, capacity-of}
-use Rattle.message_log.specs.Log.{Stored, entries, same-stored, position}
+use Rattle.protocol.specs.Positions.{position}
+use Rattle.message_log.specs.Log.{Stored, entries, same-stored}
 
 -- the bytes are a log with room for c entries, and none
 pub record Empty (c : ℕ) (bytes : List ℕ) : Type 0 where

@@ -1,5 +1,5 @@
 -- The entries of a log: looking one up, adding one, and clearing all.
-use Prim.Native.Nat.{ℕ, suc, _+_, _*_}
+use Prim.Native.Nat.{ℕ, _+_, _*_}
 use mathlib.Core.Bool.{Bool, true, false, cond, _&&_}
 use mathlib.Core.List.{List, [], _∷_, _++_, map}
 use denote.Ref.{now}
@@ -15,6 +15,7 @@ use Rattle.std.specs.declared.result.Result.the-variants.{Ok, Err}
 use Rattle.protocol.specs.declared.message.Message.{Message}
 use Rattle.protocol.specs.declared.refusal.Refusal.{Refusal}
 use Rattle.protocol.specs.declared.refusal.Refusal.the-variants.{NoSuchEntry}
+use Rattle.protocol.specs.Positions.{position}
 use Rattle.protocol.specs.Kinds.{kind-number}
 use Rattle.protocol.specs.Messages.{kind-of}
 use Rattle.message_log.specs.declared.fault.Fault.{Fault}
@@ -70,11 +71,6 @@ stored-as m = record { kind = kind-number (kind-of m); body = body-of m }
 -- entries are equal in kind and body
 abbrev pub same-stored : Stored → Stored → Bool
 same-stored x y = eqb (x .kind) (y .kind) && sameBytes (x .body) (y .body)
-
--- the lowest place in a list at which the test holds
-unfoldable pub position : {X : Type 0} → (X → Bool) → List X → Option ℕ
-position test [] = None
-position test (x ∷ xs) = cond (test x) (Some 0) (mapped suc (position test xs))
 
 -- What a call on a log answers, and the bytes that it leaves.
 pub record Outcome (X : Type 0) : Type 0 where

@@ -5,3 +5,17 @@ pub mod Refusals
 pub mod Kinds
 -- the kind of a message, and which messages are legal in a cluster
 pub mod Messages
+-- the three changes of a record
+pub mod Changes
+-- what a node decides: the tests of each call and message, with their refusals, and its effect
+pub mod Decisions
+-- the place of an element in a list
+pub mod Positions
+-- what a call does to a cluster
+pub mod Calls
+-- one history: what is promised of the messages in a log
+pub mod History
+-- runs, and that none splits the history
+pub mod Runs
+-- a worked run
+pub mod WorkedCases

@@ -1,11 +1,21 @@
 //! The types that every layer of the protocol shares.
 
+mod change;
 mod kind;
 mod message;
 mod record;
 mod refusal;
+mod theorems;
 mod volatile;
 
+pub use change::Accepted;
+pub use change::AcceptedDebug;
+pub use change::AcceptedEq;
+pub use change::AcceptedPartialEq;
+pub use change::Change;
+pub use change::ChangeDebug;
+pub use change::ChangeEq;
+pub use change::ChangePartialEq;
 pub use kind::Kind;
 pub use kind::KindDebug;
 pub use kind::KindEq;
@@ -43,6 +53,8 @@ pub use refusal::Refusal;
 pub use refusal::RefusalDebug;
 pub use refusal::RefusalEq;
 pub use refusal::RefusalPartialEq;
+pub use theorems::no_run_splits_the_history;
+pub use theorems::worked_run;
 pub use volatile::Volatile;
 pub use volatile::VolatileDebug;
 pub use volatile::VolatileEq;

@@ -1,0 +1,14 @@
+//! Theorems about the definitions, each as the contract of a function that does nothing.
+ghost use Rattle.protocol.specs.Runs.{No-run-splits-the-history};
+ghost use Rattle.protocol.specs.WorkedCases.{Worked-run};
+
+/// After every call of every run of a cluster, over values of any type, there is one commit per
+/// version, and later commits descend from earlier ones.
+pub fn no_run_splits_the_history<V>()
+    ensures { λ _. ⌜ No-run-splits-the-history V ⌝ }
+{}
+
+/// The worked run of docs/PROTOCOL.md, by the definitions of the calls.
+pub fn worked_run()
+    ensures { λ _. ⌜ Worked-run ⌝ }
+{}
