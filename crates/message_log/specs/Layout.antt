@@ -1,25 +1,11 @@
 -- Where everything lies in a log: the one place that says how wide a field is.
 -- A log is its capacity c and its count m, two bytes each, then c kind bytes, then c bodies of 26 bytes.
-use Prim.Native.Nat.{ℕ, _+_, _*_, _/_, _%_}
+use Prim.Native.Nat.{ℕ, _+_, _*_}
 use mathlib.Core.Bool.{Bool, _&&_}
-use mathlib.Core.List.{List, [], _∷_, _++_}
+use mathlib.Core.List.{List, _++_}
 use lib.Dec.{eqb, ltb, leb}
-use lib.ListN.{length, getD, take, drop}
-
--- Numbers have the high byte first: the number in two and in four bytes from place i on, ..
-abbrev pub two : List ℕ → ℕ → ℕ
-two bytes i = getD bytes i 0 * 256 + getD bytes (i + 1) 0
-
-abbrev pub four : List ℕ → ℕ → ℕ
-four bytes i =
-    getD bytes i 0 * 16777216 + getD bytes (i + 1) 0 * 65536 + getD bytes (i + 2) 0 * 256 + getD bytes (i + 3) 0
-
--- .. and the bytes of a number.
-abbrev pub in-two : ℕ → List ℕ
-in-two n = (n / 256 % 256) ∷ (n % 256) ∷ []
-
-abbrev pub in-four : ℕ → List ℕ
-in-four n = (n / 16777216 % 256) ∷ (n / 65536 % 256) ∷ (n / 256 % 256) ∷ (n % 256) ∷ []
+use lib.ListN.{length, take, drop}
+pub use Rattle.protocol.specs.Bytes.{two, four, in-two, in-four}
 
 -- the bytes with `new` in the place of those from place i on
 abbrev pub put : ℕ → List ℕ → List ℕ → List ℕ

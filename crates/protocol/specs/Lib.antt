@@ -5,6 +5,8 @@ pub mod Refusals
 pub mod Kinds
 -- the kind of a message, and which messages are legal in a cluster
 pub mod Messages
+-- numbers in bytes
+pub mod Bytes
 -- the three changes of a record
 pub mod Changes
 -- what a node decides: the tests of each call and message, with their refusals, and its effect

@@ -1,0 +1,2 @@
+-- stores in a list
+pub mod InList
