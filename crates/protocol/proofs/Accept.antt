@@ -1,24 +1,20 @@
 -- A publication delivered: the node accepts it.
-use Prim.Native.Nat.{ℕ, _≤_, _<_}
-use mathlib.Core.Bool.{Bool, true, false}
+use Prim.Native.Nat.{ℕ}
+use mathlib.Core.Bool.{true}
 use mathlib.Core.List.{List}
-use mathlib.Core.Logic.{_⊎_, inl, inr, ⊎-elim}
+use mathlib.Core.Logic.{inl, inr, ⊎-elim}
 use mathlib.Core.Path.{_≡_, refl, sym, ap, _∙_}
 use native.Mathlib.Omega.{arith}
-use Rattle.quorum.specs.declared.node_set.NodeSet.{NodeSet}
-use Rattle.quorum.specs.Sets.{member, nobody}
 use Rattle.protocol.specs.declared.record.Record.{Record}
 use Rattle.protocol.specs.declared.volatile.Volatile.{Volatile}
 use Rattle.protocol.specs.declared.message.Message.{Message}
-use Rattle.protocol.specs.declared.message.Message.the-variants as message
 use Rattle.protocol.specs.declared.message.Publication.{Publication}
 use Rattle.protocol.specs.History.{Published}
 use Rattle.protocol.proofs.Setting.{Setting}
-use Rattle.protocol.proofs.Log.{Has}
 use Rattle.protocol.proofs.Points.{Upto, upto-trans}
-use Rattle.protocol.proofs.Certificates.{Joined, published-at, published-has}
+use Rattle.protocol.proofs.Certificates.{published-at}
 use Rattle.protocol.proofs.LogInvariant.{Log-invariant}
-use Rattle.protocol.proofs.NodeInvariant.{Accepted, Leads, Last-published, Node-invariant}
+use Rattle.protocol.proofs.NodeInvariant.{Leads, Node-invariant}
 use Rattle.protocol.proofs.NodeInvariant.Accepted.{publication}
 use Rattle.protocol.proofs.Descent.{same-publication}
 use Rattle.protocol.proofs.Election.{publisher-is-leader}
@@ -31,7 +27,7 @@ module _ {V : Type 0} (S : Setting) {log : List (Message V)} (I : Log-invariant 
   accepts-later : Upto (r .«last_accepted_term») (r .«last_accepted_version») (m .term) (m .version)
   accepts-later =
       record {
-        terms = omega (arith, N .accepted-is-past, may .current);
+        terms = omega arith;
         versions = λ e. omega (arith, may .not-accepted (sym e));
       }
 
@@ -42,23 +38,26 @@ module _ {V : Type 0} (S : Setting) {log : List (Message V)} (I : Log-invariant 
   -- a leader accepts only its own publications
   leader-accepts-own : w .«election_won» ≡ true → Leads S r w m
   leader-accepts-own e =
-      N .publisher-leads (N .leader-started-join e) m (may .sent) (publisher-is-leader S log I (N .leader-is-elected e) current) (may .current)
+      N .publisher-leads (N .leader-started-join e) m (may .sent) (publisher-is-leader S log I (N .leader-is-elected e) current)
+      (may .current)
 
   -- and of those only the last
   leader-accepts-last : w .«election_won» ≡ true → m .version ≡ w .«last_published_version»
   leader-accepts-last e =
-      ⊎-elim (λ last. last) (λ old. absurd (omega (arith, may .not-accepted (may .current ∙ sym (old .0)), old .1)))
+      ⊎-elim (λ last. last) (λ old. absurd (omega (arith, may .not-accepted (may .current ∙ sym (old .0)))))
       (leader-accepts-own e .last-or-accepted)
 
+  -- the node with what it accepts
   pub accept-keeps : Node-invariant S log n (accepting m r) w
   accept-keeps =
       record {
         joins-are-past = N .joins-are-past;
         publications-are-past = N .publications-are-past;
-        accepted-is-past = omega (arith, may .current);
+        accepted-is-past = omega arith;
         responses-are-accepted = λ k h e. upto-trans (N .responses-are-accepted k h e) accepts-later;
-        accepted = publication m (published-at log (may .sent)) refl (inl refl);
-        votes-are-joins = λ s v. record { vote = N .votes-are-joins s v .vote; upto = upto-trans (N .votes-are-joins s v .upto) accepts-later };
+        accepted = publication m (published-at log (may .sent)) refl refl (inl refl);
+        votes-are-joins =
+            λ s v. record { vote = N .votes-are-joins s v .vote; upto = upto-trans (N .votes-are-joins s v .upto) accepts-later };
         leader-started-join = N .leader-started-join;
         of-configuration = λ e. leader-accepts-own e .of-configuration;
         of-committed = λ e. leader-accepts-own e .of-committed;
@@ -82,7 +81,7 @@ module _ {V : Type 0} (S : Setting) {log : List (Message V)} (I : Log-invariant 
             of-committed = l .of-committed;
             last-or-accepted =
                 ⊎-elim inl
-                (λ old. inr (may .current, omega (arith, may .not-accepted (may .current ∙ sym (old .0)), old .1)))
+                (λ old. inr (may .current, omega (arith, may .not-accepted (may .current ∙ sym (old .0)))))
                 (l .last-or-accepted);
-            ahead = λ lt. absurd (omega (arith, may .current));
+            ahead = λ lt. absurd (omega arith);
           }

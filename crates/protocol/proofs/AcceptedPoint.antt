@@ -1,9 +1,7 @@
 -- What may follow the point that a node has accepted.
-use Prim.Native.Nat.{ℕ}
-use mathlib.Core.Bool.{true}
 use mathlib.Core.List.{List}
 use mathlib.Core.Logic.{_⊎_, inl, inr, ⊎-elim}
-use mathlib.Core.Path.{_≡_, refl, sym, _∙_}
+use mathlib.Core.Path.{_≡_, refl, _∙_}
 use Rattle.quorum.specs.declared.node_set.NodeSet.{NodeSet}
 use Rattle.quorum.specs.Sets.{nobody}
 use Rattle.protocol.specs.declared.record.Record.{Record}
@@ -29,7 +27,7 @@ accepted-is-followed S log r C (nothing-yet z k (inr e)) some goes =
       keeps = inl (k ∙ e);
       moves = inr (k ∙ e);
     }
-accepted-is-followed S log r C (publication p h c k) some goes =
+accepted-is-followed S log r C (publication p h v c k) some goes =
     record {
       base-committed = p .«committed_configuration»;
       base-configuration = p .configuration;

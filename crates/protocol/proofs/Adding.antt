@@ -1,24 +1,22 @@
--- The log invariant holds of a log with one message more, if the message keeps what the invariant says of it.
-use Prim.Native.Nat.{ℕ, _≤_, _<_}
+-- The log invariant holds of a log with one message more, if the message fits.
+use Prim.Native.Nat.{_<_}
 use mathlib.Core.List.{List}
 use mathlib.Core.Logic.{_⊎_, inl, inr, ⊎-elim}
-use mathlib.Core.Path.{_≡_, refl, sym, ap, _∙_}
+use mathlib.Core.Path.{_≡_, sym, ap, subst}
 use native.Mathlib.Omega.{arith}
-use Rattle.quorum.specs.declared.node_set.NodeSet.{NodeSet}
 use Rattle.protocol.specs.declared.message.Message.{Message}
 use Rattle.protocol.specs.declared.message.Message.the-variants as message
 use Rattle.protocol.specs.declared.message.Join.{Join}
 use Rattle.protocol.specs.declared.message.Publication.{Publication}
 use Rattle.protocol.specs.declared.message.Response.{Response}
 use Rattle.protocol.specs.declared.message.Commit.{Commit}
-use Rattle.protocol.specs.Kinds.{kind-number}
-use Rattle.protocol.specs.Messages.{kind-of}
-use Rattle.protocol.specs.History.{Published, Descends}
+use Rattle.protocol.specs.History.{Descends}
 use Rattle.protocol.proofs.Setting.{Setting}
-use Rattle.protocol.proofs.Log.{Has, Grown, Adds}
+use Rattle.protocol.proofs.Log.{Has, Grown, Adds, impossible}
 use Rattle.protocol.proofs.Points.{Upto}
 use Rattle.protocol.proofs.Certificates.{Publication-at, Chosen}
-use Rattle.protocol.proofs.LogInvariant.{Log-invariant, Backed, Elects, Sound}
+use Rattle.protocol.proofs.LogInvariant.{Log-invariant, Sound}
+use Rattle.protocol.proofs.Fits.{Fits}
 use Rattle.protocol.proofs.Growth.{
   publication-grows,
   descends-grows,
@@ -29,27 +27,8 @@ use Rattle.protocol.proofs.Growth.{
   chosen-grows,
 }
 
-module _ {V : Type 0} where
-  pub same-join : {j k : Join} → _≡_ {A = Message V} (message.Join j) (message.Join k) → j ≡ k
-  same-join {j} {k} e = cc
-
-  pub same-publication : {p q : Publication V} → message.Publication p ≡ message.Publication q → p ≡ q
-  same-publication {p} {q} e = cc
-
-  pub same-response : {m k : Response} → _≡_ {A = Message V} (message.Response m) (message.Response k) → m ≡ k
-  same-response {m} {k} e = cc
-
-  pub same-commit : {c d : Commit} → _≡_ {A = Message V} (message.Commit c) (message.Commit d) → c ≡ d
-  same-commit {c} {d} e = cc
-
-  -- a message of another kind than the new one was there before
-  pub of-other-kind : {log log′ : List (Message V)} {m : Message V} → Adds log log′ m → (x : Message V)
-      → (kind-number (kind-of x) ≡ kind-number (kind-of m) → ⊥) → Has log′ x → Has log x
-  of-other-kind {log} {log′} {m} a x other h =
-      ⊎-elim (λ k. k) (λ e. absurd (other (ap (λ (y : Message V). kind-number (kind-of y)) e))) (a .new x h)
-
--- what holds of a publication holds of it in a longer log
-pub sound-grows : {V : Type 0} (S : Setting) {log log′ : List (Message V)} → Grown log log′ → (p : Publication V)
+-- a publication that is sound is so in a longer log
+sound-grows : {V : Type 0} (S : Setting) {log log′ : List (Message V)} → Grown log log′ → (p : Publication V)
     → Sound S log p → Sound S log′ p
 sound-grows S grown p s =
     record {
@@ -65,184 +44,89 @@ sound-grows S grown p s =
       election = election-grows grown S (s .election);
     }
 
-module _ {V : Type 0} (S : Setting) {log log′ : List (Message V)} (I : Log-invariant S log) where
-  -- a join in a term in which its source has not joined yet, that tells of all that its source has accepted
-  pub with-join : (j : Join) → Adds log log′ (message.Join j) → j .«base_term» < j .term
-      → ((k : Join) → Has log (message.Join k) → k .source ≡ j .source → k .term < j .term)
-      → ((m : Response) → Has log (message.Response m) → m .source ≡ j .source → Upto (m .term) (m .version) (j .«base_term») (j .«base_version»))
-      → Log-invariant S log′
-  with-join j a later first tells =
+module _ {V : Type 0} (S : Setting) {log log′ : List (Message V)} {m : Message V} (I : Log-invariant S log) (a : Adds log log′ m)
+    (fits : Fits S log m) where
+  -- a message of the longer log is old, or it is the new one and fits
+  abbrev Either : Message V → Type 0
+  Either x = Has log x ⊎ ((x ≡ m) × Fits S log x)
+
+  either : (x : Message V) → Has log′ x → Either x
+  either x h = ⊎-elim inl (λ e. inr (e, subst (λ (y : Message V). Fits S log y) (sym e) fits)) (a .new x h)
+
+  -- clause by clause, for the old messages and the new one: one destination for the joins of a source in a term
+  one-join : (j k : Join) → Either (message.Join j) → Either (message.Join k) → j .source ≡ k .source → j .term ≡ k .term
+      → j .destination ≡ k .destination
+  one-join j k (inl hj) (inl hk) s t = I .one-join j k hj hk s t
+  one-join j k (inl hj) (inr n) s t = absurd (omega (arith, n .1 .first j hj s, t))
+  one-join j k (inr n) (inl hk) s t = absurd (omega (arith, n .1 .first k hk (sym s), t))
+  one-join j k (inr n) (inr o) s t = let e : j ≡ k = cc (n .0, o .0) in ap (λ (x : Join). x .destination) e
+
+  -- a join is of a later term than its point
+  join-is-later : (j : Join) → Either (message.Join j) → j .«base_term» < j .term
+  join-is-later j (inl h) = I .join-is-later j h
+  join-is-later j (inr n) = n .1 .later
+
+  -- a response answers a publication
+  response-answers : (r : Response) → Either (message.Response r) → Publication-at log (r .term) (r .version)
+  response-answers r (inl h) = I .response-answers r h
+  response-answers r (inr n) = n .1 .answers
+
+  -- a join tells of what its source has accepted
+  join-tells : (j : Join) (r : Response) → Either (message.Join j) → Either (message.Response r) → j .source ≡ r .source
+      → r .term < j .term → Upto (r .term) (r .version) (j .«base_term») (j .«base_version»)
+  join-tells j r (inl hj) (inl hr) s lt = I .join-tells j r hj hr s lt
+  join-tells j r (inl hj) (inr n) s lt = absurd (omega (arith, n .1 .current j hj s))
+  join-tells j r (inr n) (inl hr) s lt = n .1 .tells r hr (sym s)
+  join-tells j r (inr n) (inr o) s lt = impossible (cc (n .0, o .0))
+
+  -- one publication at a point
+  one-publication : (p q : Publication V) → Either (message.Publication p) → Either (message.Publication q) → p .term ≡ q .term
+      → p .version ≡ q .version → p ≡ q
+  one-publication p q (inl hp) (inl hq) t v = I .one-publication p q hp hq t v
+  one-publication p q (inl hp) (inr n) t v = absurd (omega (arith, n .1 .newest p hp t, v))
+  one-publication p q (inr n) (inl hq) t v = absurd (omega (arith, n .1 .newest q hq (sym t), v))
+  one-publication p q (inr n) (inr o) t v = cc (n .0, o .0)
+
+  -- publications are sound
+  sound : (p : Publication V) → Either (message.Publication p) → Sound S log p
+  sound p (inl h) = I .sound p h
+  sound p (inr n) = n .1 .sound
+
+  -- the publications of a term descend from one another
+  one-line-a-term : (p q : Publication V) → Either (message.Publication p) → Either (message.Publication q) → p .term ≡ q .term
+      → p .version < q .version → Descends log q (p .term) (p .version)
+  one-line-a-term p q (inl hp) (inl hq) t lt = I .one-line-a-term p q hp hq t lt
+  one-line-a-term p q (inl hp) (inr n) t lt = n .1 .descends p hp t
+  one-line-a-term p q (inr n) (inl hq) t lt = absurd (omega (arith, n .1 .newest q hq (sym t)))
+  one-line-a-term p q (inr n) (inr o) t lt =
+      let e : p ≡ q = cc (n .0, o .0) in absurd (omega (arith, ap (λ (x : Publication V). x .version) e))
+
+  -- commits are chosen
+  commit-is-chosen : (c : Commit) → Either (message.Commit c) → Chosen S log (c .term) (c .version)
+  commit-is-chosen c (inl h) = I .commit-is-chosen c h
+  commit-is-chosen c (inr n) = n .1 .chosen
+
+  -- later terms descend from commits
+  later-terms-descend : (c : Commit) (q : Publication V) → Either (message.Commit c) → Either (message.Publication q)
+      → c .term < q .term
+      → Descends log q (c .term) (c .version)
+  later-terms-descend c q (inl hc) (inl hq) lt = I .later-terms-descend c q hc hq lt
+  later-terms-descend c q (inl hc) (inr n) lt = n .1 .descends-from-commits c hc lt
+  later-terms-descend c q (inr n) (inl hq) lt = n .1 .ancestor q hq lt
+  later-terms-descend c q (inr n) (inr o) lt = impossible (cc (n .0, o .0))
+
+  -- a message that fits keeps the invariant
+  pub fitting-message-keeps : Log-invariant S log′
+  fitting-message-keeps =
       record {
         distinct = a .distinct (I .distinct);
-        one-join = λ k l hk hl es et. one k l es et (new k hk) (new l hl);
-        join-is-later = λ k h. ⊎-elim (λ l. I .join-is-later k l) (λ e. rw e later) (new k h);
-        response-answers = λ m h. publication-grows (a .keeps) (I .response-answers m (response m h));
-        join-tells = λ k m hk hm e lt. told k m (response m hm) e lt (new k hk);
-        one-publication = λ p q hp hq. I .one-publication p q (publication p hp) (publication q hq);
-        sound = λ p h. sound-grows S (a .keeps) p (I .sound p (publication p h));
-        one-line-a-term = λ p q hp hq e lt. descends-grows (a .keeps) (I .one-line-a-term p q (publication p hp) (publication q hq) e lt);
-        commit-is-chosen = λ c h. chosen-grows (a .keeps) S (I .commit-is-chosen c (commit c h));
-        later-terms-descend = λ c q hc hq lt. descends-grows (a .keeps) (I .later-terms-descend c q (commit c hc) (publication q hq) lt);
+        one-join = λ j k hj hk. one-join j k (either _ hj) (either _ hk);
+        join-is-later = λ j h. join-is-later j (either _ h);
+        response-answers = λ r h. publication-grows (a .keeps) (response-answers r (either _ h));
+        join-tells = λ j r hj hr. join-tells j r (either _ hj) (either _ hr);
+        one-publication = λ p q hp hq. one-publication p q (either _ hp) (either _ hq);
+        sound = λ p h. sound-grows S (a .keeps) p (sound p (either _ h));
+        one-line-a-term = λ p q hp hq t lt. descends-grows (a .keeps) (one-line-a-term p q (either _ hp) (either _ hq) t lt);
+        commit-is-chosen = λ c h. chosen-grows (a .keeps) S (commit-is-chosen c (either _ h));
+        later-terms-descend = λ c q hc hq lt. descends-grows (a .keeps) (later-terms-descend c q (either _ hc) (either _ hq) lt);
       }
-    where
-      publication : (p : Publication V) → Has log′ (message.Publication p) → Has log (message.Publication p)
-      publication p h = of-other-kind a (message.Publication p) (λ e. omega arith) h
-
-      response : (m : Response) → Has log′ (message.Response m) → Has log (message.Response m)
-      response m h = of-other-kind a (message.Response m) (λ e. omega arith) h
-
-      commit : (c : Commit) → Has log′ (message.Commit c) → Has log (message.Commit c)
-      commit c h = of-other-kind a (message.Commit c) (λ e. omega arith) h
-
-      new : (k : Join) → Has log′ (message.Join k) → Has log (message.Join k) ⊎ (k ≡ j)
-      new k h = ⊎-elim inl (λ e. inr (same-join e)) (a .new (message.Join k) h)
-
-      one : (k l : Join) → k .source ≡ l .source → k .term ≡ l .term → Has log (message.Join k) ⊎ (k ≡ j)
-          → Has log (message.Join l) ⊎ (l ≡ j) → k .destination ≡ l .destination
-      one k l es et (inl hk) (inl hl) = I .one-join k l hk hl es et
-      one k l es et (inl hk) (inr e) =
-          absurd (omega (arith, first k hk (es ∙ ap (λ (x : Join). x .source) e), et, ap (λ (x : Join). x .term) e))
-      one k l es et (inr e) (inl hl) =
-          absurd (omega (arith, first l hl (sym es ∙ ap (λ (x : Join). x .source) e), et, ap (λ (x : Join). x .term) e))
-      one k l es et (inr e) (inr f) = ap (λ (x : Join). x .destination) (e ∙ sym f)
-
-      told : (k : Join) (m : Response) → Has log (message.Response m) → k .source ≡ m .source → m .term < k .term
-          → Has log (message.Join k) ⊎ (k ≡ j) → Upto (m .term) (m .version) (k .«base_term») (k .«base_version»)
-      told k m hm e lt (inl hk) = I .join-tells k m hk hm e lt
-      told k m hm e lt (inr f) = rw f (tells m hm (sym e ∙ ap (λ (x : Join). x .source) f))
-
-  -- a response to a publication, whose source has not joined in a later term
-  pub with-response : (m : Response) → Adds log log′ (message.Response m) → Publication-at log (m .term) (m .version)
-      → ((j : Join) → Has log (message.Join j) → j .source ≡ m .source → j .term ≤ m .term) → Log-invariant S log′
-  with-response m a answers past =
-      record {
-        distinct = a .distinct (I .distinct);
-        one-join = λ k l hk hl. I .one-join k l (join k hk) (join l hl);
-        join-is-later = λ k h. I .join-is-later k (join k h);
-        response-answers = λ r h. publication-grows (a .keeps) (answered r (new r h));
-        join-tells = λ k r hk hr e lt. told k r (join k hk) e lt (new r hr);
-        one-publication = λ p q hp hq. I .one-publication p q (publication p hp) (publication q hq);
-        sound = λ p h. sound-grows S (a .keeps) p (I .sound p (publication p h));
-        one-line-a-term = λ p q hp hq e lt. descends-grows (a .keeps) (I .one-line-a-term p q (publication p hp) (publication q hq) e lt);
-        commit-is-chosen = λ c h. chosen-grows (a .keeps) S (I .commit-is-chosen c (commit c h));
-        later-terms-descend = λ c q hc hq lt. descends-grows (a .keeps) (I .later-terms-descend c q (commit c hc) (publication q hq) lt);
-      }
-    where
-      join : (j : Join) → Has log′ (message.Join j) → Has log (message.Join j)
-      join j h = of-other-kind a (message.Join j) (λ e. omega arith) h
-
-      publication : (p : Publication V) → Has log′ (message.Publication p) → Has log (message.Publication p)
-      publication p h = of-other-kind a (message.Publication p) (λ e. omega arith) h
-
-      commit : (c : Commit) → Has log′ (message.Commit c) → Has log (message.Commit c)
-      commit c h = of-other-kind a (message.Commit c) (λ e. omega arith) h
-
-      new : (r : Response) → Has log′ (message.Response r) → Has log (message.Response r) ⊎ (r ≡ m)
-      new r h = ⊎-elim inl (λ e. inr (same-response e)) (a .new (message.Response r) h)
-
-      answered : (r : Response) → Has log (message.Response r) ⊎ (r ≡ m) → Publication-at log (r .term) (r .version)
-      answered r (inl h) = I .response-answers r h
-      answered r (inr e) = rw e answers
-
-      told : (k : Join) (r : Response) → Has log (message.Join k) → k .source ≡ r .source → r .term < k .term
-          → Has log (message.Response r) ⊎ (r ≡ m) → Upto (r .term) (r .version) (k .«base_term») (k .«base_version»)
-      told k r hk e lt (inl hr) = I .join-tells k r hk hr e lt
-      told k r hk e lt (inr f) =
-          absurd (omega (arith, past k hk (e ∙ ap (λ (x : Response). x .source) f), ap (λ (x : Response). x .term) f))
-
-  -- a publication that is sound, newer than all others of its term, and descends from them and from the commits of earlier terms
-  pub with-publication : (p : Publication V) → Adds log log′ (message.Publication p) → Sound S log p
-      → ((q : Publication V) → Has log (message.Publication q) → q .term ≡ p .term
-      → (q .version < p .version) × Descends log p (q .term) (q .version))
-      → ((c : Commit) → Has log (message.Commit c) → c .term < p .term → Descends log p (c .term) (c .version))
-      → Log-invariant S log′
-  with-publication p a good newest descends =
-      record {
-        distinct = a .distinct (I .distinct);
-        one-join = λ k l hk hl. I .one-join k l (join k hk) (join l hl);
-        join-is-later = λ k h. I .join-is-later k (join k h);
-        response-answers = λ m h. publication-grows (a .keeps) (I .response-answers m (response m h));
-        join-tells = λ k m hk hm. I .join-tells k m (join k hk) (response m hm);
-        one-publication = λ q r hq hr et ev. one q r et ev (new q hq) (new r hr);
-        sound = λ q h. sound-grows S (a .keeps) q (each q (new q h));
-        one-line-a-term = λ q r hq hr e lt. descends-grows (a .keeps) (line q r e lt (new q hq) (new r hr));
-        commit-is-chosen = λ c h. chosen-grows (a .keeps) S (I .commit-is-chosen c (commit c h));
-        later-terms-descend = λ c q hc hq lt. descends-grows (a .keeps) (later c q (commit c hc) lt (new q hq));
-      }
-    where
-      join : (j : Join) → Has log′ (message.Join j) → Has log (message.Join j)
-      join j h = of-other-kind a (message.Join j) (λ e. omega arith) h
-
-      response : (m : Response) → Has log′ (message.Response m) → Has log (message.Response m)
-      response m h = of-other-kind a (message.Response m) (λ e. omega arith) h
-
-      commit : (c : Commit) → Has log′ (message.Commit c) → Has log (message.Commit c)
-      commit c h = of-other-kind a (message.Commit c) (λ e. omega arith) h
-
-      new : (q : Publication V) → Has log′ (message.Publication q) → Has log (message.Publication q) ⊎ (q ≡ p)
-      new q h = ⊎-elim inl (λ e. inr (same-publication e)) (a .new (message.Publication q) h)
-
-      one : (q r : Publication V) → q .term ≡ r .term → q .version ≡ r .version → Has log (message.Publication q) ⊎ (q ≡ p)
-          → Has log (message.Publication r) ⊎ (r ≡ p) → q ≡ r
-      one q r et ev (inl hq) (inl hr) = I .one-publication q r hq hr et ev
-      one q r et ev (inl hq) (inr e) =
-          absurd (omega (arith, newest q hq (et ∙ ap (λ (x : Publication V). x .term) e) .0, ev, ap (λ (x : Publication V). x .version) e))
-      one q r et ev (inr e) (inl hr) =
-          absurd (omega (arith, newest r hr (sym et ∙ ap (λ (x : Publication V). x .term) e) .0, ev, ap (λ (x : Publication V). x .version) e))
-      one q r et ev (inr e) (inr f) = e ∙ sym f
-
-      each : (q : Publication V) → Has log (message.Publication q) ⊎ (q ≡ p) → Sound S log q
-      each q (inl h) = I .sound q h
-      each q (inr e) = rw e good
-
-      line : (q r : Publication V) → q .term ≡ r .term → q .version < r .version → Has log (message.Publication q) ⊎ (q ≡ p)
-          → Has log (message.Publication r) ⊎ (r ≡ p) → Descends log r (q .term) (q .version)
-      line q r et lt (inl hq) (inl hr) = I .one-line-a-term q r hq hr et lt
-      line q r et lt (inl hq) (inr e) = rw e (newest q hq (et ∙ ap (λ (x : Publication V). x .term) e) .1)
-      line q r et lt (inr e) (inl hr) =
-          absurd (omega (arith, newest r hr (sym et ∙ ap (λ (x : Publication V). x .term) e) .0, ap (λ (x : Publication V). x .version) e))
-      line q r et lt (inr e) (inr f) = absurd (omega (arith, ap (λ (x : Publication V). x .version) e, ap (λ (x : Publication V). x .version) f))
-
-      later : (c : Commit) (q : Publication V) → Has log (message.Commit c) → c .term < q .term → Has log (message.Publication q) ⊎ (q ≡ p)
-          → Descends log q (c .term) (c .version)
-      later c q hc lt (inl hq) = I .later-terms-descend c q hc hq lt
-      later c q hc lt (inr e) = rw e (descends c hc (omega (arith, ap (λ (x : Publication V). x .term) e)))
-
-  -- a commit of a chosen point from which all later terms descend
-  pub with-commit : (c : Commit) → Adds log log′ (message.Commit c) → Chosen S log (c .term) (c .version)
-      → ((q : Publication V) → Has log (message.Publication q) → c .term < q .term → Descends log q (c .term) (c .version))
-      → Log-invariant S log′
-  with-commit c a chosen descends =
-      record {
-        distinct = a .distinct (I .distinct);
-        one-join = λ k l hk hl. I .one-join k l (join k hk) (join l hl);
-        join-is-later = λ k h. I .join-is-later k (join k h);
-        response-answers = λ m h. publication-grows (a .keeps) (I .response-answers m (response m h));
-        join-tells = λ k m hk hm. I .join-tells k m (join k hk) (response m hm);
-        one-publication = λ p q hp hq. I .one-publication p q (publication p hp) (publication q hq);
-        sound = λ p h. sound-grows S (a .keeps) p (I .sound p (publication p h));
-        one-line-a-term = λ p q hp hq e lt. descends-grows (a .keeps) (I .one-line-a-term p q (publication p hp) (publication q hq) e lt);
-        commit-is-chosen = λ d h. chosen-grows (a .keeps) S (each d (new d h));
-        later-terms-descend = λ d q hd hq lt. descends-grows (a .keeps) (later d q (publication q hq) lt (new d hd));
-      }
-    where
-      join : (j : Join) → Has log′ (message.Join j) → Has log (message.Join j)
-      join j h = of-other-kind a (message.Join j) (λ e. omega arith) h
-
-      publication : (p : Publication V) → Has log′ (message.Publication p) → Has log (message.Publication p)
-      publication p h = of-other-kind a (message.Publication p) (λ e. omega arith) h
-
-      response : (m : Response) → Has log′ (message.Response m) → Has log (message.Response m)
-      response m h = of-other-kind a (message.Response m) (λ e. omega arith) h
-
-      new : (d : Commit) → Has log′ (message.Commit d) → Has log (message.Commit d) ⊎ (d ≡ c)
-      new d h = ⊎-elim inl (λ e. inr (same-commit e)) (a .new (message.Commit d) h)
-
-      each : (d : Commit) → Has log (message.Commit d) ⊎ (d ≡ c) → Chosen S log (d .term) (d .version)
-      each d (inl h) = I .commit-is-chosen d h
-      each d (inr e) = rw e chosen
-
-      later : (d : Commit) (q : Publication V) → Has log (message.Publication q) → d .term < q .term → Has log (message.Commit d) ⊎ (d ≡ c)
-          → Descends log q (d .term) (d .version)
-      later d q hq lt (inl hd) = I .later-terms-descend d q hd hq lt
-      later d q hq lt (inr e) = rw e (descends q hq (omega (arith, ap (λ (x : Commit). x .term) e)))

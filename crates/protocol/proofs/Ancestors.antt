@@ -2,7 +2,7 @@
 use Prim.Native.Nat.{ℕ, zero, suc, _≤_, _<_}
 use mathlib.Core.List.{List}
 use mathlib.Core.Logic.{_⊎_, inl, inr, ⊎-elim}
-use mathlib.Core.Path.{_≡_, refl, sym, ap, _∙_}
+use mathlib.Core.Path.{_≡_, sym, _∙_}
 use native.Mathlib.Omega.{arith}
 use Rattle.std.proofs.shelf.Tests.{cases-lt}
 use Rattle.quorum.specs.declared.node_set.NodeSet.{NodeSet}
@@ -13,7 +13,7 @@ use Rattle.protocol.specs.History.{Published, Descends}
 use Rattle.protocol.specs.History.Descends.{from-base, by-base}
 use Rattle.protocol.proofs.Setting.{Setting}
 use Rattle.protocol.proofs.Log.{Has}
-use Rattle.protocol.proofs.Points.{Upto, Before, cases-upto}
+use Rattle.protocol.proofs.Points.{Before, cases-upto}
 use Rattle.protocol.proofs.Certificates.{Stands, Chosen, published-has}
 use Rattle.protocol.proofs.Certificates.Stands.{root, published}
 use Rattle.protocol.proofs.LogInvariant.{Log-invariant}
@@ -21,7 +21,7 @@ use Rattle.protocol.proofs.Descent.{descends-at, publication-has-a-term}
 use Rattle.protocol.proofs.Election.{an-election-sees-every-chosen-point}
 
 module _ {V : Type 0} (S : Setting) (log : List (Message V)) (I : Log-invariant S log) where
-  -- the same, for publications below a version
+  -- by induction: publications below a version descend from a chosen point of an earlier term
   descends-below : (k : ℕ) {t v : ℕ} (q : Publication V) → q .version < k → Chosen S log t v → Has log (message.Publication q)
       → t < q .term → Descends log q t v
   descends-below zero q less c h later = absurd (omega arith)
@@ -32,25 +32,27 @@ module _ {V : Type 0} (S : Setting) (log : List (Message V)) (I : Log-invariant 
       Rest = (b : Publication V) → b .version < k → Has log (message.Publication b) → t < b .term → Descends log b t v
 
       -- by a base of a later term than the chosen point
-      by-later-base : Rest → (b : Publication V) → Published log b (q .«base_term») (q .«base_version») → t < q .«base_term» → Descends log q t v
+      by-later-base : Rest → (b : Publication V) → Published log b (q .«base_term») (q .«base_version») → t < q .«base_term»
+          → Descends log q t v
       by-later-base rest b g l =
           let s = I .sound q h in
-          by-base g (rest b (omega (arith, s .base-versions, g .of-version)) (published-has log g) (omega (arith, g .of-term)))
+          by-base g (rest b (omega arith) (published-has log g) (omega arith))
 
       -- by a base that is not before the chosen point
-      by-base-after : Rest → {K C : NodeSet} → Stands S log (q .«base_term») (q .«base_version») K C → Before t v (q .«base_term») (q .«base_version»)
+      by-base-after : Rest → {K C : NodeSet} → Stands S log (q .«base_term») (q .«base_version») K C
+          → Before t v (q .«base_term») (q .«base_version»)
           → Descends log q t v
       by-base-after rest (root z a b) l =
-          absurd (omega (arith, l .terms, publication-has-a-term S log I (c .published)))
+          absurd (omega (arith, publication-has-a-term S log I (c .published)))
       by-base-after rest (published b g k d) l =
           ⊎-elim (λ lt. by-later-base rest b g lt)
           (λ le.
-          let e : t ≡ q .«base_term» = omega (arith, l .terms) in
+          let e : t ≡ q .«base_term» = omega arith in
           let w = c .published in
           by-base g
           (descends-at log (w .of-term) (w .of-version)
           (I .one-line-a-term (c .publication) b (published-has log w) (published-has log g) (w .of-term ∙ e ∙ sym (g .of-term))
-          (omega (arith, l .versions e, w .of-version, g .of-version)))))
+          (omega (arith, l .versions e)))))
           (cases-lt t (q .«base_term»))
 
       go : Rest → (q .«base_term» < q .term) ⊎ (q .term ≤ q .«base_term») → {K C : NodeSet}

@@ -208,24 +208,7 @@ module _ {V : Type 0} (setup : Setup V) (values : (x y : V) → Decides (setup .
         ∷ publish-tests setup (node-of (world .nodes) n) t v configuration)
         (publish-effect setup (node-of (world .nodes) n) n t v value configuration)
     publish-owes n t v value configuration = record {
-      steps = λ p log′ sends after e m.
-          let same : t ≡ R n .«current_term» = eqb-true t (R n .«current_term») (holds (eqb t (R n .«current_term»)) (p .1 .1 .1 .0)) in
-          step.Step.publish n v value configuration (may p) m
-          (sent-to log′ after _ e
-          (subst
-          (λ (x : ℕ).
-          messages.Sent log log′
-          (message.Publication (record {
-            source = n;
-            term = x;
-            version = v;
-            «base_term» = R n .«last_accepted_term»;
-            «base_version» = R n .«last_accepted_version»;
-            value = value;
-            configuration = configuration;
-            «committed_configuration» = R n .«last_committed_configuration»;
-          })))
-          same sends));
+      steps = λ p log′ sends after e m. step.Step.publish n t v value configuration (may p) m (sent-to log′ after _ e sends);
       writes = λ p change c. let z : _≡_ {A = ℕ} 0 1 = cc in absurd (omega arith);
     }
       where
@@ -240,10 +223,11 @@ module _ {V : Type 0} (setup : Setup V) (values : (x y : V) → Decides (setup .
         may : Passed
             (record { refuses = not (legal-configuration (nodes-count setup world) configuration); with = IllegalConfiguration }
             ∷ publish-tests setup (node-of (world .nodes) n) t v configuration)
-            → step.May-publish setting (R n) (W n) v configuration
+            → step.May-publish setting (R n) (W n) t v configuration
         may p = record {
           won = holds (W n .«election_won») (p .1 .0);
           nothing-under-way = eqb-true _ _ (holds (eqb (W n .«last_published_version») (R n .«last_accepted_version»)) (p .1 .1 .0));
+          current = eqb-true _ _ (holds (eqb t (R n .«current_term»)) (p .1 .1 .1 .0));
           higher = leb-false v (W n .«last_published_version») (p .1 .1 .1 .1 .0);
           reconfigures-once = once (p .1 .1 .1 .1 .1 .0);
           join-quorum = holds (setup .quorum (W n .«join_votes») configuration) (p .1 .1 .1 .1 .1 .1 .0);

@@ -59,6 +59,7 @@ module _ {V : Type 0} (log : List (Message V)) where
   pub published-at : {p : Publication V} → Has log (message.Publication p) → Published log p (p .term) (p .version)
   published-at {p} h = record { entry = h .entry; there = h .there; of-term = refl; of-version = refl }
 
+  -- what is published at a point is in the log
   pub published-has : {p : Publication V} {t v : ℕ} → Published log p t v → Has log (message.Publication p)
   published-has h = record { entry = h .entry; there = h .there }
 
@@ -67,7 +68,8 @@ module _ {V : Type 0} (S : Setting) (log : List (Message V)) where
   -- initial configuration for both, or a publication has it and them.
   pub data Stands (t v : ℕ) (K C : NodeSet) : Type 0 where
     root : t ≡ 0 → K ≡ S .initial → C ≡ S .initial → Stands t v K C
-    published : (p : Publication V) → Published log p t v → K ≡ p .«committed_configuration» → C ≡ p .configuration → Stands t v K C
+    published : (p : Publication V) → Published log p t v → K ≡ p .«committed_configuration» → C ≡ p .configuration
+        → Stands t v K C
 
   -- K and C may follow the point (t, v): K is its committed configuration, or its configuration if it is committed, and C is
   -- its configuration, unless K is.

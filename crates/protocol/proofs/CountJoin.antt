@@ -1,24 +1,21 @@
 -- A join delivered: the node counts a vote more, and may win by it.
-use Prim.Native.Nat.{ℕ, _≤_, _<_}
-use mathlib.Core.Bool.{Bool, true, false, not, cond, _&&_}
+use Prim.Native.Nat.{ℕ}
+use mathlib.Core.Bool.{true, false, not, _&&_}
 use mathlib.Core.List.{List}
 use mathlib.Core.Logic.{_⊎_, inl, inr, ⊎-elim}
-use mathlib.Core.Path.{_≡_, refl, sym, ap, _∙_}
+use mathlib.Core.Path.{_≡_, refl, sym, _∙_}
 use native.Mathlib.Omega.{arith}
 use Rattle.std.proofs.shelf.Tests.{both-ways, cases-bool, cases-lt, and-parts, and-from, and-right, not-from-true, cond-false}
 use Rattle.quorum.specs.declared.node_set.NodeSet.{NodeSet}
-use Rattle.quorum.specs.Sets.{member, nobody, with-node}
+use Rattle.quorum.specs.Sets.{member, with-node}
 use Rattle.protocol.specs.declared.record.Record.{Record}
 use Rattle.protocol.specs.declared.volatile.Volatile.{Volatile}
 use Rattle.protocol.specs.declared.message.Message.{Message}
-use Rattle.protocol.specs.declared.message.Message.the-variants as message
 use Rattle.protocol.specs.declared.message.Join.{Join}
 use Rattle.protocol.specs.declared.message.Publication.{Publication}
 use Rattle.protocol.specs.History.{Published}
 use Rattle.protocol.proofs.Setting.{Setting, quorum-of-somebody}
-use Rattle.protocol.proofs.Log.{Has}
-use Rattle.protocol.proofs.Points.{Upto}
-use Rattle.protocol.proofs.Certificates.{Joined, Elected, Election, voted-in, published-has}
+use Rattle.protocol.proofs.Certificates.{Joined, Election, voted-in, published-has}
 use Rattle.protocol.proofs.LogInvariant.{Log-invariant}
 use Rattle.protocol.proofs.NodeInvariant.{Accepted, Leads, Last-published, Node-invariant}
 use Rattle.protocol.proofs.NodeInvariant.Accepted.{nothing-yet, publication}
@@ -39,7 +36,8 @@ module _ {V : Type 0} (S : Setting) {log : List (Message V)} (I : Log-invariant 
   still-quorum c h = S .grows (w .«join_votes») votes c (vote-stays (m .source) (w .«join_votes»)) h
 
   -- each vote is a join
-  votes-join : (s : ℕ) → member s votes ≡ true → Joined log s n (r .«current_term») (r .«last_accepted_term») (r .«last_accepted_version»)
+  votes-join : (s : ℕ) → member s votes ≡ true
+      → Joined log s n (r .«current_term») (r .«last_accepted_term») (r .«last_accepted_version»)
   votes-join s v =
       ⊎-elim (λ old. N .votes-are-joins s old)
       (λ e. record {
@@ -58,21 +56,24 @@ module _ {V : Type 0} (S : Setting) {log : List (Message V)} (I : Log-invariant 
   -- what winning votes are quorums of
   winners : wins (S .quorum) r votes ≡ true
       → (S .quorum votes (r .«last_accepted_configuration») ≡ true) × (S .quorum votes (r .«last_committed_configuration») ≡ true)
-  winners e = and-parts (S .quorum votes (r .«last_accepted_configuration»)) (S .quorum votes (r .«last_committed_configuration»)) e
+  winners e =
+      and-parts (S .quorum votes (r .«last_accepted_configuration»)) (S .quorum votes (r .«last_committed_configuration»)) e
 
   -- a leader's last published version stays
-  version-stays : w .«election_won» ≡ true → counting-join (S .quorum) r (m .source) w .«last_published_version» ≡ w .«last_published_version»
+  version-stays : w .«election_won» ≡ true
+      → counting-join (S .quorum) r (m .source) w .«last_published_version» ≡ w .«last_published_version»
   version-stays e =
       cond-false (wins (S .quorum) r votes && not (w .«election_won»)) (r .«last_accepted_version») (w .«last_published_version»)
       (and-right (wins (S .quorum) r votes) (not (w .«election_won»)) (not-from-true (w .«election_won») e))
 
   -- who wins now has accepted nothing of its current term
-  winner-accepted-before : wins (S .quorum) r votes ≡ true → w .«election_won» ≡ false → r .«last_accepted_term» ≡ r .«current_term» → ⊥
+  winner-accepted-before : wins (S .quorum) r votes ≡ true → w .«election_won» ≡ false
+      → r .«last_accepted_term» ≡ r .«current_term» → ⊥
   winner-accepted-before e lost same = go (N .accepted)
     where
       go : Accepted S log r → ⊥
-      go (nothing-yet z k c) = omega (arith, I .join-is-later m (may .sent), may .current)
-      go (publication p h c k) =
+      go (nothing-yet z k c) = omega (arith, I .join-is-later m (may .sent))
+      go (publication p h v c k) =
           let has = published-has log h in
           let b = I .sound p has .backed in
           let quorum : S .quorum votes (p .configuration) ≡ true = rw c at (winners e .0) in
@@ -92,7 +93,7 @@ module _ {V : Type 0} (S : Setting) {log : List (Message V)} (I : Log-invariant 
         configuration = r .«last_accepted_configuration»;
         voters = votes;
         elected = record {
-          earlier = ⊎-elim (λ lt. lt) (λ ge. absurd (winner-accepted-before e lost (omega (arith, N .accepted-is-past))))
+          earlier = ⊎-elim (λ lt. lt) (λ ge. absurd (winner-accepted-before e lost (omega arith)))
               (cases-lt (r .«last_accepted_term») (r .«current_term»));
           follows = accepted-is-followed S log r (r .«last_accepted_configuration») (N .accepted)
               (quorum-of-somebody S votes (r .«last_accepted_configuration») (winners e .0)) (inl refl);
@@ -113,6 +114,7 @@ module _ {V : Type 0} (S : Setting) {log : List (Message V)} (I : Log-invariant 
       let own = publisher-is-leader S log I (winner-is-elected e lost) h in
       both-ways (w .«election_won») lost (N .publisher-leads (may .started) p (published-has log h) own (h .of-term) .won)
 
+  -- the node with one join vote more
   pub count-join-keeps : Node-invariant S log n r (counting-join (S .quorum) r (m .source) w)
   count-join-keeps =
       record {
@@ -145,7 +147,8 @@ module _ {V : Type 0} (S : Setting) {log : List (Message V)} (I : Log-invariant 
 
       last : (p : Publication V) → wins (S .quorum) r votes ≡ true
           → Published log p (r .«current_term») (counting-join (S .quorum) r (m .source) w .«last_published_version»)
-          → (w .«election_won» ≡ true) ⊎ (w .«election_won» ≡ false) → Last-published S log n r (counting-join (S .quorum) r (m .source) w) p
+          → (w .«election_won» ≡ true) ⊎ (w .«election_won» ≡ false)
+          → Last-published S log n r (counting-join (S .quorum) r (m .source) w) p
       last p e h (inl won) =
           let l = N .last-published won p (rw (version-stays won) at h) in
           record { configuration = l .configuration; committed = rw (version-stays won) (l .committed) }

@@ -1,21 +1,18 @@
 -- A response delivered: the leader counts a vote more, and what its votes decide is chosen.
 use Prim.Native.Nat.{ℕ}
-use mathlib.Core.Bool.{Bool, true, false, _&&_}
+use mathlib.Core.Bool.{true}
 use mathlib.Core.List.{List}
 use mathlib.Core.Logic.{_⊎_, inl, inr, ⊎-elim}
-use mathlib.Core.Path.{_≡_, refl, sym, ap, _∙_}
+use mathlib.Core.Path.{_≡_, sym}
 use Rattle.std.proofs.shelf.Tests.{and-parts}
 use Rattle.quorum.specs.declared.node_set.NodeSet.{NodeSet}
 use Rattle.quorum.specs.Sets.{member, with-node}
 use Rattle.protocol.specs.declared.record.Record.{Record}
 use Rattle.protocol.specs.declared.volatile.Volatile.{Volatile}
 use Rattle.protocol.specs.declared.message.Message.{Message}
-use Rattle.protocol.specs.declared.message.Message.the-variants as message
 use Rattle.protocol.specs.declared.message.Publication.{Publication}
 use Rattle.protocol.specs.declared.message.Response.{Response}
-use Rattle.protocol.specs.History.{Published}
 use Rattle.protocol.proofs.Setting.{Setting}
-use Rattle.protocol.proofs.Log.{Has}
 use Rattle.protocol.proofs.Certificates.{Decided, Publication-at, Responded, Chosen}
 use Rattle.protocol.proofs.LogInvariant.{Log-invariant}
 use Rattle.protocol.proofs.NodeInvariant.{Leads, Last-published, Node-invariant}
@@ -37,6 +34,7 @@ module _ {V : Type 0} (S : Setting) {log : List (Message V)} (I : Log-invariant 
       (λ e. record { response = m; has = may .sent; of-source = sym e; of-term = may .current; of-version = may .last })
       (vote-is-old-or-new (m .source) (w .«publish_votes») s v)
 
+  -- the leader with one publish vote more
   pub count-response-keeps : Node-invariant S log n r (counting-response (m .source) w)
   count-response-keeps =
       record {
@@ -78,14 +76,17 @@ module _ {V : Type 0} (S : Setting) {log : List (Message V)} (I : Log-invariant 
       known : Last-published S log n r w (last .publication)
       known = N .last-published (may .won) (last .publication) (last .published)
 
-      quorums : (S .quorum votes (r .«last_committed_configuration») ≡ true) × (S .quorum votes (w .«last_published_configuration») ≡ true)
-      quorums = and-parts (S .quorum votes (r .«last_committed_configuration»)) (S .quorum votes (w .«last_published_configuration»)) e
+      quorums : (S .quorum votes (r .«last_committed_configuration») ≡ true)
+          × (S .quorum votes (w .«last_published_configuration») ≡ true)
+      quorums =
+          and-parts (S .quorum votes (r .«last_committed_configuration»)) (S .quorum votes (w .«last_published_configuration»)) e
 
       quorum-at : {c d : NodeSet} → c ≡ d → S .quorum votes c ≡ true → S .quorum votes d ≡ true
       quorum-at x h = rw x at h
 
       go : (r .«last_committed_configuration» ≡ last .publication .«committed_configuration»)
-          ⊎ Decided log (r .«current_term») (w .«last_published_version») → Chosen S log (r .«current_term») (w .«last_published_version»)
+          ⊎ Decided log (r .«current_term») (w .«last_published_version»)
+          → Chosen S log (r .«current_term») (w .«last_published_version»)
       go (inl k) =
           record {
             publication = last .publication;

@@ -1,7 +1,7 @@
 -- Descent: it raises versions, and every committed point below a publication is one that it descends from.
 use Prim.Native.Nat.{ℕ, _≤_, _<_}
 use mathlib.Core.List.{List}
-use mathlib.Core.Logic.{_⊎_, inl, inr, ⊎-elim}
+use mathlib.Core.Logic.{_⊎_, inl, inr}
 use mathlib.Core.Path.{_≡_, sym, _∙_}
 use native.Mathlib.Omega.{arith}
 use Rattle.std.proofs.shelf.Tests.{cases-order}
@@ -28,7 +28,7 @@ module _ {V : Type 0} (S : Setting) (log : List (Message V)) (I : Log-invariant 
   -- no publication has term 0
   pub publication-has-a-term : {p : Publication V} {t v : ℕ} → Published log p t v → 0 < t
   publication-has-a-term {p} h =
-      let low = I .sound p (published-has log h) .election .elected .earlier in omega (arith, h .of-term)
+      let low = I .sound p (published-has log h) .election .elected .earlier in omega arith
 
   -- what a commit decides is chosen
   pub decided-is-chosen : {t v : ℕ} → Decided log t v → Chosen S log t v
@@ -42,19 +42,20 @@ module _ {V : Type 0} (S : Setting) (log : List (Message V)) (I : Log-invariant 
       (h .of-version ∙ sym (k .of-version))
 
   -- descent rises: what a publication descends from is of no later term and of a lower version
-  pub descent-rises : {p : Publication V} {t v : ℕ} → Has log (message.Publication p) → Descends log p t v → (t ≤ p .term) × (v < p .version)
-  descent-rises {p} h (from-base e f) = let s = I .sound p h in (omega (arith, s .base-terms), omega (arith, s .base-versions))
+  pub descent-rises : {p : Publication V} {t v : ℕ} → Has log (message.Publication p) → Descends log p t v
+      → (t ≤ p .term) × (v < p .version)
+  descent-rises {p} h (from-base e f) = let s = I .sound p h in (omega arith, omega arith)
   descent-rises {p} h (by-base {q = q} k d) =
       let s = I .sound p h in
       let rest = descent-rises (published-has log k) d in
-      (omega (arith, s .base-terms, k .of-term), omega (arith, s .base-versions, k .of-version))
+      (omega arith, omega arith)
 
   -- what a publication descends from is its base or before its base
   pub ancestor-is-upto-base : {p : Publication V} {t v : ℕ} → Descends log p t v → Upto t v (p .«base_term») (p .«base_version»)
   ancestor-is-upto-base {p} (from-base e f) = record { terms = omega arith; versions = λ q. omega arith }
   ancestor-is-upto-base {p} (by-base {q = q} k d) =
       let rest = descent-rises (published-has log k) d in
-      record { terms = omega (arith, k .of-term); versions = λ e. omega (arith, k .of-version) }
+      record { terms = omega arith; versions = λ e. omega arith }
 
   -- a committed point below is an ancestor
   pub committed-below-is-ancestor : {t v : ℕ} {p : Publication V} → Decided log t v → Has log (message.Publication p)
@@ -68,10 +69,12 @@ module _ {V : Type 0} (S : Setting) (log : List (Message V)) (I : Log-invariant 
       go (inl e) =
           let k = chosen .published in
           descends-at log (k .of-term) (k .of-version)
-          (I .one-line-a-term (chosen .publication) p (published-has log k) h (k .of-term ∙ e) (omega (arith, b .versions e, k .of-version)))
+          (I .one-line-a-term (chosen .publication) p (published-has log k) h (k .of-term ∙ e)
+          (omega (arith, b .versions e)))
       go (inr (inl lt)) =
-          descends-at log (d .of-term) (d .of-version) (I .later-terms-descend (d .commit) p (d .has) h (omega (arith, d .of-term)))
-      go (inr (inr gt)) = absurd (omega (arith, b .terms))
+          descends-at log (d .of-term) (d .of-version)
+          (I .later-terms-descend (d .commit) p (d .has) h (omega arith))
+      go (inr (inr gt)) = absurd (omega arith)
 
   -- A publication whose base stands descends from every committed point that is not after the base.
   -- The publication itself need not be in the log.
@@ -83,6 +86,6 @@ module _ {V : Type 0} (S : Setting) (log : List (Message V)) (I : Log-invariant 
           → {K C : NodeSet} → Stands S log (p .«base_term») (p .«base_version») K C → Descends log p t v
       go (inl e) s = from-base (sym (e .0)) (sym (e .1))
       go (inr b) (root e k c) =
-          absurd (omega (arith, b .terms, publication-has-a-term (decided-is-chosen d .published)))
+          absurd (omega (arith, publication-has-a-term (decided-is-chosen d .published)))
       go (inr b) (published q h k c) =
           by-base h (committed-below-is-ancestor d (published-has log h) (rw (h .of-term, h .of-version) b))

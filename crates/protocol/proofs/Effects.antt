@@ -99,7 +99,8 @@ counting-join quorum r s w =
       «started_join» = w .«started_join»;
       «election_won» = wins quorum r (with-node s (w .«join_votes»));
       «last_published_version» =
-          cond (wins quorum r (with-node s (w .«join_votes»)) && not (w .«election_won»)) (r .«last_accepted_version») (w .«last_published_version»);
+          cond (wins quorum r (with-node s (w .«join_votes»)) && not (w .«election_won»)) (r .«last_accepted_version»)
+          (w .«last_published_version»);
       «last_published_configuration» = w .«last_published_configuration»;
       «publish_votes» = w .«publish_votes»;
     }
@@ -143,12 +144,12 @@ join-message n d t r =
       «base_version» = r .«last_accepted_version»;
     }
 
--- the publication of node n in its current term
-abbrev pub publication-message : {V : Type 0} → ℕ → ℕ → V → NodeSet → Record V → Publication V
-publication-message n version value configuration r =
+-- the publication of node n in term t
+abbrev pub publication-message : {V : Type 0} → ℕ → ℕ → ℕ → V → NodeSet → Record V → Publication V
+publication-message n t version value configuration r =
     record {
       source = n;
-      term = r .«current_term»;
+      term = t;
       version = version;
       «base_term» = r .«last_accepted_term»;
       «base_version» = r .«last_accepted_version»;

@@ -1,8 +1,8 @@
 -- The invariant of a state: that of its log, and that of every node.
 use Prim.Native.Nat.{ℕ}
 use mathlib.Core.List.{List}
-use mathlib.Core.Logic.{_⊎_, inl, inr, ⊎-elim}
-use mathlib.Core.Path.{_≡_, refl, sym, subst}
+use mathlib.Core.Logic.{_⊎_, inl, inr}
+use mathlib.Core.Path.{_≡_, sym, subst}
 use Rattle.std.proofs.shelf.Tests.{cases-eq}
 use Rattle.protocol.specs.declared.record.Record.{Record}
 use Rattle.protocol.specs.declared.volatile.Volatile.{Volatile}
@@ -14,11 +14,13 @@ use Rattle.protocol.proofs.NodeGrowth.{Unconcerned, node-grows}
 use Rattle.protocol.proofs.Effects.{Node-state}
 use Rattle.protocol.proofs.Steps.{State, stored, memory, Moves}
 
+-- both parts
 pub record Invariant {V : Type 0} (S : Setting) (s : State V) : Type 0 where
   pub of-log : Log-invariant S (s .log)
   pub of-nodes : (n : ℕ) → Node-invariant S (s .log) n (stored s n) (memory s n)
 
-module _ {V : Type 0} (S : Setting) {before after : State V} {n : ℕ} {r : Record V} {w : Volatile} (moves : Moves before after n r w) where
+module _ {V : Type 0} (S : Setting) {before after : State V} {n : ℕ} {r : Record V} {w : Volatile}
+    (moves : Moves before after n r w) where
   -- in one log, the nodes of a step have the invariant if the one that takes it and the others have it
   nodes-after : (log : List (Message V)) → Node-invariant S log n r w
       → ((k : ℕ) → (k ≡ n → ⊥) → Node-invariant S log k (stored before k) (memory before k))
@@ -31,7 +33,8 @@ module _ {V : Type 0} (S : Setting) {before after : State V} {n : ℕ} {r : Reco
           subst (λ (s : Node-state V). Node-invariant S log n (s .«record») (s .volatile)) (sym (moves .now)) N in
           subst (λ (x : ℕ). Node-invariant S log x (stored after x) (memory after x)) (sym e) here
       go (inr other) =
-          subst (λ (s : Node-state V). Node-invariant S log k (s .«record») (s .volatile)) (sym (moves .others k other)) (rest k other)
+          subst (λ (s : Node-state V). Node-invariant S log k (s .«record») (s .volatile)) (sym (moves .others k other))
+          (rest k other)
 
   -- a step that sends nothing
   pub silent-step : Invariant S before → after .log ≡ before .log → Node-invariant S (before .log) n r w → Invariant S after

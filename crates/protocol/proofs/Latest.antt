@@ -1,11 +1,8 @@
 -- The highest commit up to a point, found by a search through the log.
-use Prim.Native.Nat.{ℕ, zero, suc}
+use Prim.Native.Nat.{ℕ}
 use mathlib.Core.List.{List, [], _∷_}
 use mathlib.Core.Logic.{_⊎_, inl, inr, ⊎-elim}
-use mathlib.Core.Path.{_≡_, refl, ap, sym, _∙_}
-use native.Mathlib.Omega.{arith}
-use Rattle.std.specs.Finite.{nth}
-use Rattle.std.specs.declared.option.Option.the-variants.{Some, None}
+use mathlib.Core.Path.{_≡_, refl, sym}
 use Rattle.quorum.specs.declared.node_set.NodeSet.{NodeSet}
 use Rattle.protocol.specs.declared.message.Message.{Message}
 use Rattle.protocol.specs.declared.message.Message.the-variants as message
@@ -15,9 +12,9 @@ use Rattle.protocol.specs.declared.message.Response.{Response}
 use Rattle.protocol.specs.declared.message.Commit.{Commit}
 use Rattle.protocol.specs.History.{Published}
 use Rattle.protocol.proofs.Setting.{Setting}
-use Rattle.protocol.proofs.Log.{Has}
+use Rattle.protocol.proofs.Log.{Has, first-or-later, has-later, has-first, impossible}
 use Rattle.protocol.proofs.Points.{Upto, Before, upto-itself, upto-trans, before-is-upto, upto-and-before, cases-points}
-use Rattle.protocol.proofs.Certificates.{Decided, Chosen}
+use Rattle.protocol.proofs.Certificates.{Decided}
 use Rattle.protocol.proofs.LogInvariant.{Log-invariant}
 
 module _ {V : Type 0} (log : List (Message V)) where
@@ -29,20 +26,7 @@ module _ {V : Type 0} (log : List (Message V)) where
         → Upto (d .term) (d .version) (c .term) (c .version))
         → Highest bt bv
 
--- a message of a list is its first or one of the rest
-pub first-or-later : {M : Type 0} (x : M) (xs : List M) (m : M) → Has (x ∷ xs) m → (x ≡ m) ⊎ Has xs m
-first-or-later {M} x xs m h = go (h .entry) (h .there)
-  where
-    go : (e : ℕ) → nth (x ∷ xs) e ≡ Some m → (x ≡ m) ⊎ Has xs m
-    go zero t = inl cc
-    go (suc e) t = inr (record { entry = e; there = t })
-
-pub has-later : {M : Type 0} {x m : M} {xs : List M} → Has xs m → Has (x ∷ xs) m
-has-later h = record { entry = suc (h .entry); there = h .there }
-
-pub has-first : {M : Type 0} (x : M) (xs : List M) → Has (x ∷ xs) x
-has-first x xs = record { entry = zero; there = refl }
-
+-- what is said of a commit is said of an equal one
 at : {c d : Commit} {a b : ℕ} → c ≡ d → Upto (c .term) (c .version) a b → Upto (d .term) (d .version) a b
 at e u = rw e at u
 
@@ -56,15 +40,12 @@ module _ {V : Type 0} (bt bv : ℕ) where
       some c (has-later l) u
       (λ d k w. ⊎-elim (λ e. absurd (other d e)) (λ later. top d later w) (first-or-later m rest (message.Commit d) k))
 
-  same-commit : {c d : Commit} → _≡_ {A = Message V} (message.Commit c) (message.Commit d) → c ≡ d
-  same-commit {c} {d} e = cc
-
   -- a commit is compared with the highest so far
   past-commit : (c : Commit) (rest : List (Message V)) → Highest rest bt bv → Highest (message.Commit c ∷ rest) bt bv
   past-commit c rest high = go (cases-points (c .term) (c .version) bt bv) high
     where
       other : (d : Commit) → Has (message.Commit c ∷ rest) (message.Commit d) → (c ≡ d) ⊎ Has rest (message.Commit d)
-      other d k = ⊎-elim (λ e. inl (same-commit e)) inr (first-or-later (message.Commit c) rest (message.Commit d) k)
+      other d k = ⊎-elim (λ e. inl cc) inr (first-or-later (message.Commit c) rest (message.Commit d) k)
 
       go : Upto (c .term) (c .version) bt bv ⊎ Before bt bv (c .term) (c .version) → Highest rest bt bv
           → Highest (message.Commit c ∷ rest) bt bv
@@ -75,18 +56,22 @@ module _ {V : Type 0} (bt bv : ℕ) where
           ⊎-elim
           (λ le. some a (has-later l) w (λ d k x. ⊎-elim (λ e. at e le) (λ later. top d later x) (other d k)))
           (λ lt. some c (has-first (message.Commit c) rest) u
-          (λ d k x. ⊎-elim (λ e. at e (upto-itself (c .term) (c .version))) (λ later. upto-trans (top d later x) (before-is-upto lt)) (other d k)))
+          (λ d k x. ⊎-elim (λ e. at e (upto-itself (c .term) (c .version)))
+          (λ later. upto-trans (top d later x) (before-is-upto lt)) (other d k)))
           (cases-points (c .term) (c .version) (a .term) (a .version))
       go (inr b) (none h) = none (λ d k w. ⊎-elim (λ e. upto-and-before (at (sym e) w) b) (λ l. h d l w) (other d k))
-      go (inr b) (some a l w top) = some a (has-later l) w (λ d k x. ⊎-elim (λ e. absurd (upto-and-before (at (sym e) x) b)) (λ later. top d later x) (other d k))
+      go (inr b) (some a l w top) =
+          some a (has-later l) w
+          (λ d k x. ⊎-elim (λ e. absurd (upto-and-before (at (sym e) x) b)) (λ later. top d later x) (other d k))
 
+  -- the search
   pub find-highest : (log : List (Message V)) → Highest log bt bv
-  find-highest [] = none (λ c h u. let z : _≡_ {A = ℕ} 0 1 = cc (h .there) in omega arith)
-  find-highest (message.Join j ∷ rest) = past-another (message.Join j) rest (λ c e. let z : _≡_ {A = ℕ} 0 1 = cc in omega arith) (find-highest rest)
+  find-highest [] = none (λ c h u. impossible (cc (h .there)))
+  find-highest (message.Join j ∷ rest) = past-another (message.Join j) rest (λ c e. impossible cc) (find-highest rest)
   find-highest (message.Publication p ∷ rest) =
-      past-another (message.Publication p) rest (λ c e. let z : _≡_ {A = ℕ} 0 1 = cc in omega arith) (find-highest rest)
+      past-another (message.Publication p) rest (λ c e. impossible cc) (find-highest rest)
   find-highest (message.Response m ∷ rest) =
-      past-another (message.Response m) rest (λ c e. let z : _≡_ {A = ℕ} 0 1 = cc in omega arith) (find-highest rest)
+      past-another (message.Response m) rest (λ c e. impossible cc) (find-highest rest)
   find-highest (message.Commit c ∷ rest) = past-commit c rest (find-highest rest)
 
 module _ {V : Type 0} (S : Setting) (log : List (Message V)) where
@@ -106,12 +91,14 @@ at-point : {V : Type 0} {log : List (Message V)} {t v a b : ℕ} (d : Decided lo
     → Upto t v a b → Upto (d .commit .term) (d .commit .version) a b
 at-point d u = rw (d .of-term, d .of-version) u
 
+-- and back
 from-point : {V : Type 0} {log : List (Message V)} {t v a b : ℕ} (d : Decided log t v)
     → Upto (d .commit .term) (d .commit .version) a b → Upto t v a b
 from-point d u = rw (d .of-term, d .of-version) at u
 
 -- the latest configuration up to a point can be found
-pub find-latest : {V : Type 0} (S : Setting) (log : List (Message V)) → Log-invariant S log → (bt bv : ℕ) → Some-latest S log bt bv
+pub find-latest : {V : Type 0} (S : Setting) (log : List (Message V)) → Log-invariant S log → (bt bv : ℕ)
+    → Some-latest S log bt bv
 find-latest {V} S log I bt bv = go (find-highest bt bv log)
   where
     go : Highest log bt bv → Some-latest S log bt bv

@@ -22,6 +22,8 @@ pub mod Election
 pub mod Ancestors
 -- the invariant of a node
 pub mod NodeInvariant
+-- what the log invariant asks of a message that is sent
+pub mod Fits
 -- the log invariant with one message more
 pub mod Adding
 -- the node invariant while the log grows
@@ -66,3 +68,13 @@ pub mod Carrying
 pub mod CallsAreSteps
 -- no run of calls splits the history
 pub mod Unsplit
+-- when an effect is carried out, and what the log means afterwards
+pub mod Placing
+-- each action of the model, and the tests and the effect of ours
+pub mod Matching
+-- the set descendant of the model and the bases in the log
+pub mod Tying
+-- what the model asserts of a node that is not bootstrapped
+pub mod Asserting
+-- the steps of the calls are the model's
+pub mod Stepping

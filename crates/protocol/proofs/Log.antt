@@ -6,13 +6,33 @@ use mathlib.Core.Path.{_≡_, refl, sym, ap, _∙_}
 use native.Mathlib.Omega.{arith}
 use lib.ListN.{length}
 use Rattle.std.specs.Finite.{nth}
-use Rattle.std.specs.declared.option.Option.the-variants.{Some, None}
+use Rattle.std.specs.declared.option.Option.the-variants.{Some}
+
+-- 0 is not 1: where messages of two kinds are equal, `cc` proves that they are
+pub impossible : {A : Type 0} → _≡_ {A = ℕ} 0 1 → A
+impossible e = absurd (omega arith)
 
 module _ {M : Type 0} where
   -- some entry of the log is this message
   pub record Has (log : List M) (m : M) : Type 0 where
     pub entry : ℕ
     pub there : nth log entry ≡ Some m
+
+  -- a message of a log is its first or one of the rest
+  pub first-or-later : (x : M) (xs : List M) (m : M) → Has (x ∷ xs) m → (x ≡ m) ⊎ Has xs m
+  first-or-later x xs m h = go (h .entry) (h .there)
+    where
+      go : (e : ℕ) → nth (x ∷ xs) e ≡ Some m → (x ≡ m) ⊎ Has xs m
+      go zero t = inl cc
+      go (suc e) t = inr (record { entry = e; there = t })
+
+  -- a message of the rest is one of the log
+  pub has-later : {x m : M} {xs : List M} → Has xs m → Has (x ∷ xs) m
+  has-later h = record { entry = suc (h .entry); there = h .there }
+
+  -- the first is one of the log
+  pub has-first : (x : M) (xs : List M) → Has (x ∷ xs) x
+  has-first x xs = record { entry = zero; there = refl }
 
   -- no two entries of the log are equal messages
   abbrev pub Distinct : List M → Type 0
@@ -35,7 +55,7 @@ module _ {M : Type 0} where
 
   -- an entry keeps its place
   pub entry-stays : (log : List M) (m x : M) (e : ℕ) → nth log e ≡ Some x → nth (log ++ (m ∷ [])) e ≡ Some x
-  entry-stays [] m x e h = absurd (let z : _≡_ {A = ℕ} 0 1 = cc in omega arith)
+  entry-stays [] m x e h = impossible cc
   entry-stays (y ∷ log) m x zero h = h
   entry-stays (y ∷ log) m x (suc e) h = entry-stays log m x e h
 
@@ -43,7 +63,7 @@ module _ {M : Type 0} where
   pub entry-is-old-or-last : (log : List M) (m x : M) (e : ℕ) → nth (log ++ (m ∷ [])) e ≡ Some x
       → (nth log e ≡ Some x) ⊎ ((e ≡ length log) × (x ≡ m))
   entry-is-old-or-last [] m x zero h = inr (refl, cc)
-  entry-is-old-or-last [] m x (suc e) h = absurd (let z : _≡_ {A = ℕ} 0 1 = cc in omega arith)
+  entry-is-old-or-last [] m x (suc e) h = impossible cc
   entry-is-old-or-last (y ∷ log) m x zero h = inl h
   entry-is-old-or-last (y ∷ log) m x (suc e) h =
       ⊎-elim inl (λ last. inr (ap suc (last .0), last .1)) (entry-is-old-or-last log m x e h)
@@ -69,6 +89,7 @@ module _ {M : Type 0} where
         distinct = distinct-with-one-more log m fresh;
       }
 
+  -- a message that is sent is added
   pub sent-adds : {log log′ : List M} {m : M} → Sent log log′ m → Adds log log′ m
   sent-adds {log} {log′} {m} (already h e) = rw e (record { keeps = λ x k. k; new = λ x k. inl k; distinct = λ d. d })
   sent-adds {log} {log′} {m} (appended h e) = rw e (append-adds log m h)

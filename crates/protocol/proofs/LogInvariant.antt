@@ -27,7 +27,8 @@ module _ {V : Type 0} (S : Setting) (log : List (Message V)) where
   -- Who joined its source, if its base is of an earlier term: they elected it on top of that base.
   pub record Elects (p : Publication V) : Type 0 where
     pub voters : NodeSet
-    pub elected : Elected S log (p .term) (p .source) (p .«base_term») (p .«base_version») (p .«committed_configuration») (p .configuration) voters
+    pub elected : Elected S log (p .term) (p .source) (p .«base_term») (p .«base_version») (p .«committed_configuration»)
+        (p .configuration) voters
 
   -- what holds of each publication
   pub record Sound (p : Publication V) : Type 0 where
@@ -44,6 +45,7 @@ module _ {V : Type 0} (S : Setting) (log : List (Message V)) where
     -- its source was elected in its term
     pub election : Election S log (p .term) (p .source)
 
+  -- what holds of the log
   pub record Log-invariant : Type 0 where
     -- no two entries are equal messages
     pub distinct : Distinct log

@@ -2,7 +2,7 @@
 use Prim.Native.Nat.{ℕ, _≤_}
 use mathlib.Core.Bool.{true}
 use mathlib.Core.List.{List}
-use mathlib.Core.Logic.{_⊎_, inl, inr, ⊎-elim}
+use mathlib.Core.Logic.{inl, inr, ⊎-elim}
 use mathlib.Core.Path.{_≡_}
 use Rattle.protocol.specs.declared.record.Record.{Record}
 use Rattle.protocol.specs.declared.volatile.Volatile.{Volatile}
@@ -16,14 +16,15 @@ use Rattle.protocol.proofs.Setting.{Setting}
 use Rattle.protocol.proofs.Log.{Has, Grown}
 use Rattle.protocol.proofs.Points.{Upto}
 use Rattle.protocol.proofs.Growth.{published-grows, decided-grows, joined-grows, responded-grows, election-grows}
-use Rattle.protocol.proofs.NodeInvariant.{Accepted, Last-published, Node-invariant}
+use Rattle.protocol.proofs.NodeInvariant.{Accepted, Node-invariant}
 use Rattle.protocol.proofs.NodeInvariant.Accepted.{nothing-yet, publication}
 
+-- what a node has accepted it has accepted in a longer log
 pub accepted-grows : {V : Type 0} (S : Setting) {log log′ : List (Message V)} → Grown log log′ → {r : Record V}
     → Accepted S log r → Accepted S log′ r
 accepted-grows S grown (nothing-yet e k c) = nothing-yet e k c
-accepted-grows S grown (publication p h c k) =
-    publication p (published-grows grown h) c (⊎-elim inl (λ d. inr (d .0, decided-grows grown (d .1))) k)
+accepted-grows S grown (publication p h v c k) =
+    publication p (published-grows grown h) v c (⊎-elim inl (λ d. inr (d .0, decided-grows grown (d .1))) k)
 
 -- What a longer log must not have for the invariant of node n to hold on: joins of n in later terms, responses of n to what it
 -- has not accepted, new publications of n, and new ones at the point that n, as a leader, published last.
@@ -34,8 +35,10 @@ pub record Unconcerned {V : Type 0} (log log′ : List (Message V)) (n : ℕ) (r
       → Upto (m .term) (m .version) (r .«last_accepted_term») (r .«last_accepted_version»)
   pub own-publications : (p : Publication V) → Has log′ (message.Publication p) → p .source ≡ n → Has log (message.Publication p)
   pub last-publication : w .«election_won» ≡ true → (p : Publication V)
-      → Published log′ p (r .«current_term») (w .«last_published_version») → Published log p (r .«current_term») (w .«last_published_version»)
+      → Published log′ p (r .«current_term») (w .«last_published_version»)
+      → Published log p (r .«current_term») (w .«last_published_version»)
 
+-- the invariant of a node that a longer log does not concern
 pub node-grows : {V : Type 0} (S : Setting) {log log′ : List (Message V)} {n : ℕ} {r : Record V} {w : Volatile}
     → Unconcerned log log′ n r w → Node-invariant S log n r w → Node-invariant S log′ n r w
 node-grows S u N =
@@ -53,7 +56,10 @@ node-grows S u N =
       publisher-leads = λ j p h e. N .publisher-leads j p (u .own-publications p h e) e;
       last-published = λ e p h.
           let l = N .last-published e p (u .last-publication e p h) in
-          record { configuration = l .configuration; committed = ⊎-elim inl (λ d. inr (decided-grows (u .grown) d)) (l .committed) };
+          record {
+            configuration = l .configuration;
+            committed = ⊎-elim inl (λ d. inr (decided-grows (u .grown) d)) (l .committed);
+          };
       votes-lead = N .votes-lead;
       votes-are-responses = λ s m. responded-grows (u .grown) (N .votes-are-responses s m);
     }

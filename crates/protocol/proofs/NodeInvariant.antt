@@ -4,7 +4,6 @@ use mathlib.Core.Bool.{true}
 use mathlib.Core.List.{List}
 use mathlib.Core.Logic.{_⊎_}
 use mathlib.Core.Path.{_≡_}
-use Rattle.quorum.specs.declared.node_set.NodeSet.{NodeSet}
 use Rattle.quorum.specs.Sets.{member, nobody}
 use Rattle.protocol.specs.declared.record.Record.{Record}
 use Rattle.protocol.specs.declared.volatile.Volatile.{Volatile}
@@ -20,15 +19,16 @@ use Rattle.protocol.proofs.Points.{Upto}
 use Rattle.protocol.proofs.Certificates.{Decided, Joined, Responded, Election}
 
 module _ {V : Type 0} (S : Setting) (log : List (Message V)) (r : Record V) where
-  -- What a node has accepted: nothing but perhaps the initial configuration, or a publication, whose configuration it may
-  -- know to be committed.
+  -- What a node has accepted: nothing but perhaps the initial configuration, or a publication with its value and its
+  -- configuration, which the node may know to be committed.
   pub data Accepted : Type 0 where
     nothing-yet : r .«last_accepted_term» ≡ 0 → r .«last_committed_configuration» ≡ r .«last_accepted_configuration»
         → (r .«last_accepted_configuration» ≡ nobody) ⊎ (r .«last_accepted_configuration» ≡ S .initial) → Accepted
     publication : (p : Publication V) → Published log p (r .«last_accepted_term») (r .«last_accepted_version»)
-        → r .«last_accepted_configuration» ≡ p .configuration
+        → r .«last_accepted_value» ≡ p .value → r .«last_accepted_configuration» ≡ p .configuration
         → (r .«last_committed_configuration» ≡ p .«committed_configuration»)
-        ⊎ ((r .«last_committed_configuration» ≡ p .configuration) × Decided log (r .«last_accepted_term») (r .«last_accepted_version»))
+        ⊎ ((r .«last_committed_configuration» ≡ p .configuration)
+        × Decided log (r .«last_accepted_term») (r .«last_accepted_version»))
         → Accepted
 
 module _ {V : Type 0} (S : Setting) (r : Record V) (w : Volatile) where
@@ -54,11 +54,13 @@ module _ {V : Type 0} (S : Setting) (log : List (Message V)) (n : ℕ) (r : Reco
     pub committed : (r .«last_committed_configuration» ≡ p .«committed_configuration»)
         ⊎ Decided log (r .«current_term») (w .«last_published_version»)
 
+  -- what holds of node n with record r and memory w
   pub record Node-invariant : Type 0 where
     -- it has joined in no later term
     pub joins-are-past : (j : Join) → Has log (message.Join j) → j .source ≡ n → j .term ≤ r .«current_term»
     -- it has published in no later term
-    pub publications-are-past : (p : Publication V) → Has log (message.Publication p) → p .source ≡ n → p .term ≤ r .«current_term»
+    pub publications-are-past : (p : Publication V) → Has log (message.Publication p) → p .source ≡ n
+        → p .term ≤ r .«current_term»
     -- it has accepted nothing of a later term
     pub accepted-is-past : r .«last_accepted_term» ≤ r .«current_term»
     -- what it has responded to is not after what it has accepted

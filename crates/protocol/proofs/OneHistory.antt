@@ -1,7 +1,7 @@
 -- The invariant of the log gives one history.
-use Prim.Native.Nat.{ℕ, _<_}
+use Prim.Native.Nat.{_<_}
 use mathlib.Core.List.{List}
-use mathlib.Core.Logic.{_⊎_, inl, inr, ⊎-elim}
+use mathlib.Core.Logic.{_⊎_, inl, inr}
 use mathlib.Core.Path.{_≡_, refl, sym, ap, _∙_}
 use native.Mathlib.Omega.{arith}
 use Rattle.std.proofs.shelf.Tests.{cases-order}
@@ -12,7 +12,6 @@ use Rattle.protocol.specs.declared.message.Publication.{Publication}
 use Rattle.protocol.specs.declared.message.Commit.{Commit}
 use Rattle.protocol.specs.History.{Published, Committed, Descends, Exactly-one, One-history}
 use Rattle.protocol.proofs.Setting.{Setting}
-use Rattle.protocol.proofs.Log.{Has}
 use Rattle.protocol.proofs.Points.{Before, before-here}
 use Rattle.protocol.proofs.Certificates.{Decided, Chosen, published-has}
 use Rattle.protocol.proofs.LogInvariant.{Log-invariant}
@@ -23,6 +22,7 @@ module _ {V : Type 0} (S : Setting) (log : List (Message V)) (I : Log-invariant 
   chosen : (c : Commit) → Committed log c → Chosen S log (c .term) (c .version)
   chosen c h = I .commit-is-chosen c (record { entry = h .entry; there = h .there })
 
+  -- what a commit decides
   decided : (c : Commit) → Committed log c → Decided log (c .term) (c .version)
   decided c h = record { commit = c; has = record { entry = h .entry; there = h .there }; of-term = refl; of-version = refl }
 
@@ -44,8 +44,9 @@ module _ {V : Type 0} (S : Setting) (log : List (Message V)) (I : Log-invariant 
   later-term-is-higher c d hc hd lt =
       let x = chosen d hd in
       let has = published-has log (x .published) in
-      let down = I .later-terms-descend c (x .publication) (record { entry = hc .entry; there = hc .there }) has (omega (arith, x .published .of-term)) in
-      omega (arith, descent-rises S log I has down .1, x .published .of-version)
+      let down = I .later-terms-descend c (x .publication) (record { entry = hc .entry; there = hc .there }) has
+      (omega arith) in
+      omega (arith, descent-rises S log I has down .1)
 
   -- commits of one version are of one term
   one-term : (c d : Commit) → Committed log c → Committed log d → c .version ≡ d .version → c .term ≡ d .term
@@ -70,11 +71,13 @@ module _ {V : Type 0} (S : Setting) (log : List (Message V)) (I : Log-invariant 
       committed-below-is-ancestor S log I (decided d hd) (published-has log hp)
       (before-here (hp .of-term) (hp .of-version) (before (cases-order (d .term) (c .term))))
     where
-      before : (d .term ≡ c .term) ⊎ ((d .term < c .term) ⊎ (c .term < d .term)) → Before (d .term) (d .version) (c .term) (c .version)
+      before : (d .term ≡ c .term) ⊎ ((d .term < c .term) ⊎ (c .term < d .term))
+          → Before (d .term) (d .version) (c .term) (c .version)
       before (inl e) = record { terms = omega arith; versions = λ x. lt }
       before (inr (inl l)) = record { terms = omega arith; versions = λ x. lt }
       before (inr (inr g)) = absurd (omega (arith, later-term-is-higher c d hc hd g))
 
+  -- both promises
   pub one-history : One-history log
   one-history =
       record {

@@ -15,16 +15,20 @@ pub record Before (a b c d : ℕ) : Type 0 where
   pub terms : a ≤ c
   pub versions : a ≡ c → b < d
 
+-- a point is not after itself
 pub upto-itself : (a b : ℕ) → Upto a b a b
 upto-itself a b = record { terms = omega arith; versions = λ e. omega arith }
 
+-- not after, and not after again
 pub upto-trans : {a b c d e f : ℕ} → Upto a b c d → Upto c d e f → Upto a b e f
 upto-trans {a} {b} {c} {d} {e} {f} h k =
     record { terms = omega arith; versions = λ q. omega (arith, h .versions (omega arith), k .versions (omega arith)) }
 
+-- what is before is not after
 pub before-is-upto : {a b c d : ℕ} → Before a b c d → Upto a b c d
 before-is-upto h = record { terms = h .terms; versions = λ e. omega (arith, h .versions e) }
 
+-- not after, and then before
 pub upto-then-before : {a b c d e f : ℕ} → Upto a b c d → Before c d e f → Before a b e f
 upto-then-before {a} {b} {c} {d} {e} {f} h k =
     record { terms = omega arith; versions = λ q. omega (arith, h .versions (omega arith), k .versions (omega arith)) }

@@ -1,35 +1,27 @@
 -- The steps that change a node's record or reset the node, in one log: restart, bootstrap, start join and a commit delivered.
-use Prim.Native.Nat.{ℕ, _≤_, _<_}
-use mathlib.Core.Bool.{Bool, true, false}
+use Prim.Native.Nat.{ℕ}
+use mathlib.Core.Bool.{true}
 use mathlib.Core.List.{List}
-use mathlib.Core.Logic.{_⊎_, inl, inr, ⊎-elim}
-use mathlib.Core.Path.{_≡_, refl, sym, ap, _∙_}
+use mathlib.Core.Logic.{inr}
+use mathlib.Core.Path.{_≡_, refl, sym, _∙_}
 use native.Mathlib.Omega.{arith}
-use Rattle.std.proofs.shelf.Tests.{both-ways}
-use Rattle.quorum.specs.declared.node_set.NodeSet.{NodeSet}
-use Rattle.quorum.specs.Sets.{member, nobody}
+use Rattle.quorum.specs.Sets.{nobody}
 use Rattle.protocol.specs.declared.record.Record.{Record}
 use Rattle.protocol.specs.declared.volatile.Volatile.{Volatile}
 use Rattle.protocol.specs.declared.message.Message.{Message}
-use Rattle.protocol.specs.declared.message.Message.the-variants as message
 use Rattle.protocol.specs.declared.message.Publication.{Publication}
 use Rattle.protocol.specs.declared.message.Commit.{Commit}
 use Rattle.protocol.proofs.Setting.{Setting, quorum-of-somebody}
-use Rattle.protocol.proofs.Log.{Has}
-use Rattle.protocol.proofs.Points.{Upto}
 use Rattle.protocol.proofs.Certificates.{Decided, published-has}
 use Rattle.protocol.proofs.LogInvariant.{Log-invariant}
-use Rattle.protocol.proofs.NodeInvariant.{Accepted, Leads, Last-published, Node-invariant}
+use Rattle.protocol.proofs.NodeInvariant.{Accepted, Leads, Node-invariant}
 use Rattle.protocol.proofs.NodeInvariant.Accepted.{nothing-yet, publication}
 use Rattle.protocol.proofs.Effects.{reset, ready, bootstrapped, in-term, marked}
 use Rattle.protocol.proofs.Steps.{May-bootstrap, May-start-join, May-mark}
-use Rattle.protocol.proofs.Votes.{no-vote, no-bits}
+use Rattle.protocol.proofs.Votes.{never, no-vote, no-bits}
 
--- a flag that is false is not true
-never : {A : Type 0} → false ≡ true → A
-never e = absurd (both-ways false refl e)
-
-module _ {V : Type 0} (S : Setting) {log : List (Message V)} (I : Log-invariant S log) {n : ℕ} {r : Record V} {w : Volatile} (N : Node-invariant S log n r w) where
+module _ {V : Type 0} (S : Setting) {log : List (Message V)} (I : Log-invariant S log) {n : ℕ} {r : Record V} {w : Volatile}
+    (N : Node-invariant S log n r w) where
   -- a restart forgets the votes
   pub reset-keeps : Node-invariant S log n r (reset r)
   reset-keeps =
@@ -54,9 +46,9 @@ module _ {V : Type 0} (S : Setting) {log : List (Message V)} (I : Log-invariant 
   pub start-join-keeps : (t : ℕ) → May-start-join r t → Node-invariant S log n (in-term t r) (ready r)
   start-join-keeps t may =
       record {
-        joins-are-past = λ j h e. omega (arith, N .joins-are-past j h e, may .higher);
-        publications-are-past = λ p h e. omega (arith, N .publications-are-past p h e, may .higher);
-        accepted-is-past = omega (arith, N .accepted-is-past, may .higher);
+        joins-are-past = λ j h e. omega (arith, N .joins-are-past j h e);
+        publications-are-past = λ p h e. omega (arith, N .publications-are-past p h e);
+        accepted-is-past = omega arith;
         responses-are-accepted = N .responses-are-accepted;
         accepted = stays (N .accepted);
         votes-are-joins = λ s m. no-vote s m;
@@ -64,7 +56,7 @@ module _ {V : Type 0} (S : Setting) {log : List (Message V)} (I : Log-invariant 
         of-configuration = never;
         of-committed = never;
         leader-is-elected = never;
-        publisher-leads = λ j p h e t. absurd (omega (arith, N .publications-are-past p h e, may .higher));
+        publisher-leads = λ j p h e t. absurd (omega (arith, N .publications-are-past p h e));
         last-published = never;
         votes-lead = λ s m. no-vote s m;
         votes-are-responses = λ s m. no-vote s m;
@@ -72,7 +64,7 @@ module _ {V : Type 0} (S : Setting) {log : List (Message V)} (I : Log-invariant 
     where
       stays : Accepted S log r → Accepted S log (in-term t r)
       stays (nothing-yet z k c) = nothing-yet z k c
-      stays (publication p h c k) = publication p h c k
+      stays (publication p h v c k) = publication p h v c k
 
   -- bootstrap: the node had no configuration, so it has accepted nothing and leads nobody
   pub bootstrap-keeps : (value : V) → May-bootstrap r → Node-invariant S log n (bootstrapped value (S .initial) r) w
@@ -98,11 +90,12 @@ module _ {V : Type 0} (S : Setting) {log : List (Message V)} (I : Log-invariant 
       empty = no-bits (r .«last_accepted_configuration») (may .empty)
 
       no-leader : {A : Type 0} → w .«election_won» ≡ true → A
-      no-leader e = absurd (quorum-of-somebody S (w .«join_votes») (r .«last_accepted_configuration») (N .of-configuration e) empty)
+      no-leader e =
+          absurd (quorum-of-somebody S (w .«join_votes») (r .«last_accepted_configuration») (N .of-configuration e) empty)
 
       first : Accepted S log r → Accepted S log (bootstrapped value (S .initial) r)
       first (nothing-yet z k c) = nothing-yet z refl (inr refl)
-      first (publication p h c k) =
+      first (publication p h v c k) =
           let b = I .sound p (published-has log h) .backed in
           absurd (quorum-of-somebody S (b .voters) (p .configuration) (b .of-configuration) (sym c ∙ empty))
 
@@ -139,7 +132,7 @@ module _ {V : Type 0} (S : Setting) {log : List (Message V)} (I : Log-invariant 
 
       marks : Accepted S log r → Accepted S log (marked r)
       marks (nothing-yet z k c) = nothing-yet z refl c
-      marks (publication p h c k) = publication p h c (inr (c, decided))
+      marks (publication p h v c k) = publication p h v c (inr (c, decided))
 
       leads : (p : Publication V) → Leads S r w p → Leads S (marked r) w p
       leads p l =

@@ -1,13 +1,12 @@
 -- What the protocol is run with: a voting rule that keeps the laws, and the initial configuration.
 use mathlib.Core.Bool.{Bool, true}
 use mathlib.Core.Path.{_≡_}
-use native.Mathlib.Omega.{arith}
-use Prim.Native.Nat.{ℕ}
 use Rattle.std.proofs.shelf.Tests.{both-ways}
 use Rattle.quorum.specs.declared.node_set.NodeSet.{NodeSet}
 use Rattle.quorum.specs.Sets.{nobody}
 use Rattle.quorum.specs.Laws.{Shared, Grows, Void}
 
+-- a voting rule with three laws, and the initial configuration
 pub record Setting : Type 0 where
   pub quorum : NodeSet → NodeSet → Bool
   pub shared : Shared quorum

@@ -1,38 +1,32 @@
 -- A fresh start has the invariant: there are no messages, and no node has done anything.
 use Prim.Native.Nat.{ℕ}
-use mathlib.Core.Bool.{true, false}
-use mathlib.Core.List.{List, []}
-use mathlib.Core.Logic.{_⊎_, inl, inr}
-use mathlib.Core.Path.{_≡_, refl, sym, subst, _∙_}
+use mathlib.Core.List.{[]}
+use mathlib.Core.Logic.{inl}
+use mathlib.Core.Path.{_≡_, sym, subst, _∙_}
 use native.Mathlib.Omega.{arith}
 use Rattle.std.specs.Finite.{nth}
-use Rattle.std.specs.declared.option.Option.the-variants.{Some, None}
-use Rattle.std.proofs.shelf.Tests.{both-ways}
+use Rattle.std.specs.declared.option.Option.the-variants.{Some}
 use Rattle.quorum.specs.Sets.{nobody}
 use Rattle.protocol.specs.declared.volatile.Volatile.{Volatile}
-use Rattle.protocol.specs.declared.message.Message.{Message}
 use Rattle.protocol.proofs.Setting.{Setting}
-use Rattle.protocol.proofs.Log.{Has}
+use Rattle.protocol.proofs.Log.{Has, impossible}
 use Rattle.protocol.proofs.LogInvariant.{Log-invariant}
 use Rattle.protocol.proofs.NodeInvariant.{Node-invariant}
 use Rattle.protocol.proofs.NodeInvariant.Accepted.{nothing-yet}
 use Rattle.protocol.proofs.Effects.{Node-state, reset}
 use Rattle.protocol.proofs.Steps.{State, Fresh-node, Fresh}
-use Rattle.protocol.proofs.Votes.{no-vote, no-bits}
+use Rattle.protocol.proofs.Votes.{never, no-vote, no-bits}
 use Rattle.protocol.proofs.Invariant.{Invariant}
 
 -- the empty log has no entry
 no-entry : {M A : Type 0} (e : ℕ) (m : M) → nth {X = M} [] e ≡ Some m → A
-no-entry e m h = absurd (let z : _≡_ {A = ℕ} 0 1 = cc in omega arith)
+no-entry e m h = impossible cc
 
 -- the empty log has no message
 nothing : {M A : Type 0} {m : M} → Has [] m → A
 nothing {m = m} h = no-entry (h .entry) m (h .there)
 
--- a flag that is false is not true
-never : {A : Type 0} → false ≡ true → A
-never e = absurd (both-ways false refl e)
-
+-- the empty log has the invariant
 empty-log : {V : Type 0} (S : Setting) → Log-invariant {V = V} S []
 empty-log S =
     record {
@@ -49,12 +43,13 @@ empty-log S =
     }
 
 -- a fresh node, its memory as after a restart
-fresh-record : {V : Type 0} (S : Setting) (n : ℕ) (s : Node-state V) → Fresh-node s → Node-invariant S [] n (s .«record») (reset (s .«record»))
+fresh-record : {V : Type 0} (S : Setting) (n : ℕ) (s : Node-state V) → Fresh-node s
+    → Node-invariant S [] n (s .«record») (reset (s .«record»))
 fresh-record S n s f =
     record {
       joins-are-past = λ j h. nothing h;
       publications-are-past = λ p h. nothing h;
-      accepted-is-past = omega (arith, f .no-accepted-term);
+      accepted-is-past = omega arith;
       responses-are-accepted = λ m h. nothing h;
       accepted = nothing-yet (f .no-accepted-term) (committed ∙ sym configuration) (inl configuration);
       votes-are-joins = λ k m. no-vote k m;
@@ -74,7 +69,9 @@ fresh-record S n s f =
     committed : s .«record» .«last_committed_configuration» ≡ nobody
     committed = no-bits (s .«record» .«last_committed_configuration») (f .no-committed-configuration)
 
-fresh-node : {V : Type 0} (S : Setting) (n : ℕ) (s : Node-state V) → Fresh-node s → Node-invariant S [] n (s .«record») (s .volatile)
+-- a fresh node
+fresh-node : {V : Type 0} (S : Setting) (n : ℕ) (s : Node-state V) → Fresh-node s
+    → Node-invariant S [] n (s .«record») (s .volatile)
 fresh-node S n s f =
     subst (λ (w : Volatile). Node-invariant S [] n (s .«record») w) (sym (f .no-memory)) (fresh-record S n s f)
 

@@ -1,6 +1,6 @@
 -- The steps of the protocol, by frames: what a step asks, what the node that takes it then has, and that nothing else changes.
-use Prim.Native.Nat.{ℕ, _≤_, _<_}
-use mathlib.Core.Bool.{Bool, true, false}
+use Prim.Native.Nat.{ℕ, _<_}
+use mathlib.Core.Bool.{true, false}
 use mathlib.Core.List.{List, []}
 use mathlib.Core.Logic.{_⊎_}
 use mathlib.Core.Path.{_≡_}
@@ -48,7 +48,8 @@ stored s n = s .node n .«record»
 abbrev pub memory : {V : Type 0} → State V → ℕ → Volatile
 memory s n = s .node n .volatile
 
--- What each step asks of the node that takes it, with its record r and its memory w.
+-- What each step asks of the node that takes it, with its record r and its memory w. The code refuses more: the sender and
+-- the destination of a message are nodes, and a configuration is legal. Nothing of that is needed here.
 
 -- bootstrap: no configuration yet
 pub record May-bootstrap {V : Type 0} (r : Record V) : Type 0 where
@@ -58,51 +59,54 @@ pub record May-bootstrap {V : Type 0} (r : Record V) : Type 0 where
 pub record May-start-join {V : Type 0} (r : Record V) (t : ℕ) : Type 0 where
   pub higher : r .«current_term» < t
 
--- a join delivered to node n
-pub record May-count-join {V : Type 0} (log : List (Message V)) (n : ℕ) (r : Record V) (w : Volatile) (m : Join) : Type 0 where
-  pub sent : Has log (message.Join m)
-  pub destination : m .destination ≡ n
-  pub current : m .term ≡ r .«current_term»
-  pub started : w .«started_join» ≡ true
-  pub not-ahead : Upto (m .«base_term») (m .«base_version») (r .«last_accepted_term») (r .«last_accepted_version»)
-
--- publish
-pub record May-publish {V : Type 0} (S : Setting) (r : Record V) (w : Volatile) (version : ℕ) (configuration : NodeSet) : Type 0 where
+-- publish in term t a value of version v with configuration C
+pub record May-publish {V : Type 0} (S : Setting) (r : Record V) (w : Volatile) (t v : ℕ) (C : NodeSet) : Type 0 where
   pub won : w .«election_won» ≡ true
   pub nothing-under-way : w .«last_published_version» ≡ r .«last_accepted_version»
-  pub higher : w .«last_published_version» < version
-  pub reconfigures-once : (configuration ≡ r .«last_accepted_configuration»)
+  pub current : t ≡ r .«current_term»
+  pub higher : w .«last_published_version» < v
+  pub reconfigures-once : (C ≡ r .«last_accepted_configuration»)
       ⊎ (r .«last_committed_configuration» ≡ r .«last_accepted_configuration»)
-  pub join-quorum : S .quorum (w .«join_votes») configuration ≡ true
+  pub join-quorum : S .quorum (w .«join_votes») C ≡ true
 
--- a publication delivered
-pub record May-accept {V : Type 0} (log : List (Message V)) (r : Record V) (m : Publication V) : Type 0 where
-  pub sent : Has log (message.Publication m)
-  pub current : m .term ≡ r .«current_term»
-  pub not-accepted : m .term ≡ r .«last_accepted_term» → r .«last_accepted_version» < m .version
+module _ {V : Type 0} (log : List (Message V)) where
+  -- a join delivered to node n
+  pub record May-count-join (n : ℕ) (r : Record V) (w : Volatile) (m : Join) : Type 0 where
+    pub sent : Has log (message.Join m)
+    pub destination : m .destination ≡ n
+    pub current : m .term ≡ r .«current_term»
+    pub started : w .«started_join» ≡ true
+    pub not-ahead : Upto (m .«base_term») (m .«base_version») (r .«last_accepted_term») (r .«last_accepted_version»)
 
--- a response delivered to node n
-pub record May-count-response {V : Type 0} (log : List (Message V)) (n : ℕ) (r : Record V) (w : Volatile) (m : Response) : Type 0 where
-  pub sent : Has log (message.Response m)
-  pub destination : m .destination ≡ n
-  pub won : w .«election_won» ≡ true
-  pub current : m .term ≡ r .«current_term»
-  pub last : m .version ≡ w .«last_published_version»
+  -- a publication delivered
+  pub record May-accept (r : Record V) (m : Publication V) : Type 0 where
+    pub sent : Has log (message.Publication m)
+    pub current : m .term ≡ r .«current_term»
+    pub not-accepted : m .term ≡ r .«last_accepted_term» → r .«last_accepted_version» < m .version
 
--- a commit delivered
-pub record May-mark {V : Type 0} (log : List (Message V)) (r : Record V) (w : Volatile) (m : Commit) : Type 0 where
-  pub sent : Has log (message.Commit m)
-  pub current : m .term ≡ r .«current_term»
-  pub accepted-term : m .term ≡ r .«last_accepted_term»
-  pub accepted-version : m .version ≡ r .«last_accepted_version»
-  pub not-newer : w .«election_won» ≡ true → r .«last_accepted_version» ≡ w .«last_published_version»
+  -- a response delivered to node n
+  pub record May-count-response (n : ℕ) (r : Record V) (w : Volatile) (m : Response) : Type 0 where
+    pub sent : Has log (message.Response m)
+    pub destination : m .destination ≡ n
+    pub won : w .«election_won» ≡ true
+    pub current : m .term ≡ r .«current_term»
+    pub last : m .version ≡ w .«last_published_version»
 
--- the four writes to a node's store, with the record after each
-pub data Write {V : Type 0} (S : Setting) (value : V) (log : List (Message V)) (r : Record V) (w : Volatile) (r′ : Record V) : Type 0 where
-  bootstrap : May-bootstrap r → r′ ≡ bootstrapped value (S .initial) r → Write S value log r w r′
-  start-join : (t : ℕ) → May-start-join r t → r′ ≡ in-term t r → Write S value log r w r′
-  accept : (m : Publication V) → May-accept log r m → r′ ≡ accepting m r → Write S value log r w r′
-  mark : (m : Commit) → May-mark log r w m → r′ ≡ marked r → Write S value log r w r′
+  -- a commit delivered
+  pub record May-mark (r : Record V) (w : Volatile) (m : Commit) : Type 0 where
+    pub sent : Has log (message.Commit m)
+    pub current : m .term ≡ r .«current_term»
+    pub accepted-term : m .term ≡ r .«last_accepted_term»
+    pub accepted-version : m .version ≡ r .«last_accepted_version»
+    pub not-newer : w .«election_won» ≡ true → r .«last_accepted_version» ≡ w .«last_published_version»
+
+module _ {V : Type 0} (S : Setting) (value : V) (log : List (Message V)) (r : Record V) (w : Volatile) where
+  -- the four writes to a node's store, with the record after each
+  pub data Write (r′ : Record V) : Type 0 where
+    bootstrap : May-bootstrap r → r′ ≡ bootstrapped value (S .initial) r → Write r′
+    start-join : (t : ℕ) → May-start-join r t → r′ ≡ in-term t r → Write r′
+    accept : (m : Publication V) → May-accept log r m → r′ ≡ accepting m r → Write r′
+    mark : (m : Commit) → May-mark log r w m → r′ ≡ marked r → Write r′
 
 -- node n is now as these say, and every other node is as it was
 pub record Moves {V : Type 0} (before after : State V) (n : ℕ) (r : Record V) (w : Volatile) : Type 0 where
@@ -123,10 +127,10 @@ pub data Step {V : Type 0} (S : Setting) (value : V) (before after : State V) : 
       → May-count-join (before .log) n (stored before n) (memory before n) m
       → Moves before after n (stored before n) (counting-join (S .quorum) (stored before n) (m .source) (memory before n))
       → after .log ≡ before .log → Step S value before after
-  publish : (n v : ℕ) (x : V) (configuration : NodeSet)
-      → May-publish S (stored before n) (memory before n) v configuration
+  publish : (n t v : ℕ) (x : V) (configuration : NodeSet)
+      → May-publish S (stored before n) (memory before n) t v configuration
       → Moves before after n (stored before n) (publishing v configuration (memory before n))
-      → Sent (before .log) (after .log) (message.Publication (publication-message n v x configuration (stored before n)))
+      → Sent (before .log) (after .log) (message.Publication (publication-message n t v x configuration (stored before n)))
       → Step S value before after
   deliver-publication : (n : ℕ) (m : Publication V)
       → May-accept (before .log) (stored before n) m

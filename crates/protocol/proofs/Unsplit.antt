@@ -14,17 +14,17 @@ use Rattle.protocol.proofs.Steps as step
 use Rattle.protocol.proofs.CallsAreSteps.{setting, state-of, After, call-steps}
 
 module _ {V : Type 0} (setup : Setup V) (lawful : Lawful setup) where
-  abbrev the-setting : Setting
+  abbrev pub the-setting : Setting
   the-setting = setting setup (lawful .values) (lawful .shared) (lawful .grows) (lawful .void)
 
-  abbrev state : List (Node V) → List (Message V) → step.State V
+  abbrev pub state : List (Node V) → List (Message V) → step.State V
   state = state-of setup (lawful .values) (lawful .shared) (lawful .grows) (lawful .void)
 
   -- the state that a world is in, reached by steps
-  record Stepped (world : World V) : Type 0 where
-    log : List (Message V)
-    readable : world .entries ≡ entries-of log
-    reached : step.Reached the-setting (setup .initial-value) (state (world .nodes) log)
+  pub record Stepped (world : World V) : Type 0 where
+    pub log : List (Message V)
+    pub readable : world .entries ≡ entries-of log
+    pub reached : step.Reached the-setting (setup .initial-value) (state (world .nodes) log)
 
   fresh-at : (versions : List ℕ) (n : ℕ) → getD (map (fresh-node setup) versions) n (fresh-node setup 0) ≡ fresh-node setup (getD versions n 0)
   fresh-at [] n = refl
@@ -34,7 +34,7 @@ module _ {V : Type 0} (setup : Setup V) (lawful : Lawful setup) where
   fresh : (v : ℕ) → step.Fresh-node {V = V} (record { «record» = fresh-node setup v .kept; volatile = fresh-node setup v .volatile })
   fresh v = record { no-term = refl; no-accepted-term = refl; no-configuration = refl; no-committed-configuration = refl; no-memory = refl }
 
-  stepped : (world : World V) → Reached setup world → Stepped world
+  pub stepped : (world : World V) → Reached setup world → Stepped world
   stepped world (at-opening o) = record {
     log = [];
     readable = o .cleared;

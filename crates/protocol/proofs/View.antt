@@ -2,20 +2,26 @@
 use Prim.Native.Nat.{ℕ, zero, suc, _<_}
 use mathlib.Core.List.{List}
 use mathlib.Core.Logic.{_⊎_, inl, inr, ⊎-elim}
-use mathlib.Core.Path.{_≡_, refl, sym, ap, _∙_}
+use mathlib.Core.Path.{_≡_, sym, ap, _∙_}
 use native.Mathlib.Omega.{arith}
 use Rattle.quorum.specs.declared.node_set.NodeSet.{NodeSet}
 use Rattle.protocol.specs.declared.message.Message.{Message}
 use Rattle.protocol.specs.declared.message.Message.the-variants as message
 use Rattle.protocol.specs.declared.message.Publication.{Publication}
-use Rattle.protocol.specs.History.{Published, Descends}
+use Rattle.protocol.specs.History.{Published}
 use Rattle.protocol.proofs.Setting.{Setting}
 use Rattle.protocol.proofs.Log.{Has}
-use Rattle.protocol.proofs.Points.{Upto, Before, upto-itself, upto-trans, before-is-upto, upto-then-before, upto-both-ways, cases-upto}
+use Rattle.protocol.proofs.Points.{Upto, Before, upto-itself, upto-trans, before-is-upto, upto-both-ways, cases-upto}
 use Rattle.protocol.proofs.Certificates.{Decided, Stands, Follows, published-has}
 use Rattle.protocol.proofs.Certificates.Stands.{root, published}
 use Rattle.protocol.proofs.LogInvariant.{Log-invariant}
-use Rattle.protocol.proofs.Descent.{publication-has-a-term, decided-is-chosen, same-publication, committed-below-is-ancestor, ancestor-is-upto-base}
+use Rattle.protocol.proofs.Descent.{
+  publication-has-a-term,
+  decided-is-chosen,
+  same-publication,
+  committed-below-is-ancestor,
+  ancestor-is-upto-base,
+}
 use Rattle.protocol.proofs.Latest.{Latest}
 use Rattle.protocol.proofs.Latest.Latest.{none, last}
 
@@ -33,7 +39,7 @@ module _ {V : Type 0} (S : Setting) (log : List (Message V)) (I : Log-invariant 
   -- at a root the latest configuration is the initial one
   latest-at-root : {t v : ℕ} {X : NodeSet} → t ≡ 0 → Latest S log t v X → X ≡ S .initial
   latest-at-root z (none h e) = e
-  latest-at-root {t} {v} z (last a b d u top p h x) = absurd (omega (arith, u .terms, publication-has-a-term S log I h))
+  latest-at-root {t} {v} z (last a b d u top p h x) = absurd (omega (arith, publication-has-a-term S log I h))
 
   -- a base is before its publication
   pub base-is-before : {p : Publication V} → Has log (message.Publication p)
@@ -67,22 +73,24 @@ module _ {V : Type 0} (S : Setting) (log : List (Message V)) (I : Log-invariant 
   of-the-base f e (inl x) = inl (x ∙ sym e)
   of-the-base f e (inr x) = ⊎-elim (λ c. inr (x ∙ sym c)) (λ k. inl (x ∙ sym k)) (f .moves)
 
-  -- the same, for points below a version
+  -- by induction: the view keeps the last committed configuration at points below a version
   view-below : (k : ℕ) {t v : ℕ} {K C X : NodeSet} → v < k → Follows S log t v K C → Latest S log t v X → (X ≡ K) ⊎ (X ≡ C)
   view-below zero less f l = absurd (omega arith)
   view-below (suc k) {t} {v} {K} {C} {X} less f l = go (λ p m g n. view-below k m g n) (f .keeps) (f .stands)
     where
       Rest : Publication V → Type 0
       Rest p =
-          p .«base_version» < k → Follows S log (p .«base_term») (p .«base_version») (p .«committed_configuration») (p .configuration)
+          p .«base_version» < k → Follows S log (p .«base_term») (p .«base_version») (p .«committed_configuration»)
+          (p .configuration)
           → Latest S log (p .«base_term») (p .«base_version») X → (X ≡ p .«committed_configuration») ⊎ (X ≡ p .configuration)
 
-      at-publication : (p : Publication V) → Rest p → Published log p t v → (X ≡ p .«committed_configuration») ⊎ (X ≡ p .configuration)
+      at-publication : (p : Publication V) → Rest p → Published log p t v
+          → (X ≡ p .«committed_configuration») ⊎ (X ≡ p .configuration)
       at-publication p rest h =
           let has = published-has log h in
           let here : Latest S log (p .term) (p .version) X = rw (h .of-term, h .of-version) l in
           let s = I .sound p has in
-          ⊎-elim inr (λ m. rest (omega (arith, s .base-versions, h .of-version)) (s .follows) m) (latest-at-base has here)
+          ⊎-elim inr (λ m. rest (omega arith) (s .follows) m) (latest-at-base has here)
 
       go : ((p : Publication V) → Rest p) → (K ≡ f .base-committed) ⊎ ((K ≡ f .base-configuration) × Decided log t v)
           → Stands S log t v (f .base-committed) (f .base-configuration) → (X ≡ K) ⊎ (X ≡ C)

@@ -15,9 +15,13 @@ pub mod Decisions
 pub mod Positions
 -- what a call does to a cluster
 pub mod Calls
+-- the public model, under its own names
+pub mod Model
 -- one history: what is promised of the messages in a log
 pub mod History
 -- runs, and that none splits the history
 pub mod Runs
 -- a worked run
 pub mod WorkedCases
+-- that the steps of the calls are the model's
+pub mod Steps

@@ -54,6 +54,7 @@ pub use refusal::RefusalDebug;
 pub use refusal::RefusalEq;
 pub use refusal::RefusalPartialEq;
 pub use theorems::no_run_splits_the_history;
+pub use theorems::steps_are_the_models;
 pub use theorems::worked_run;
 pub use volatile::Volatile;
 pub use volatile::VolatileDebug;

@@ -1,5 +1,6 @@
 //! Theorems about the definitions, each as the contract of a function that does nothing.
 ghost use Rattle.protocol.specs.Runs.{No-run-splits-the-history};
+ghost use Rattle.protocol.specs.Steps.{Steps-are-the-models};
 ghost use Rattle.protocol.specs.WorkedCases.{Worked-run};
 
 /// After every call of every run of a cluster, over values of any type, there is one commit per
@@ -11,4 +12,10 @@ pub fn no_run_splits_the_history<V>()
 /// The worked run of docs/PROTOCOL.md, by the definitions of the calls.
 pub fn worked_run()
     ensures { λ _. ⌜ Worked-run ⌝ }
+{}
+
+/// The steps of the calls are the steps of the public model of docs/MODEL.md, and an opening is
+/// its beginning.
+pub fn steps_are_the_models<V>()
+    ensures { λ _. ⌜ Steps-are-the-models V ⌝ }
 {}
