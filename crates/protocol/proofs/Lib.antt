@@ -78,3 +78,5 @@ pub mod Tying
 pub mod Asserting
 -- the steps of the calls are the model's
 pub mod Stepping
+-- on runs the model's descendant is descent
+pub mod DescendantIsDescent

@@ -60,7 +60,7 @@ in-nodes zero n h = absurd (omega arith)
 in-nodes (suc N) n h =
     ⊎-elim (λ e. inl e) (λ o. inr (in-nodes N n (⊎-elim (λ l. l) (λ g. absurd (omega arith)) o))) (cases-order n N)
 
-in-map : {X Y : Type 0} (f : X → Y) (xs : List X) (x : X) → x ∈ xs → f x ∈ map f xs
+pub in-map : {X Y : Type 0} (f : X → Y) (xs : List X) (x : X) → x ∈ xs → f x ∈ map f xs
 in-map f [] x h = absurd h
 in-map f (y ∷ xs) x (inl e) = inl (ap f e)
 in-map f (y ∷ xs) x (inr h) = inr (in-map f xs x h)
@@ -70,9 +70,9 @@ module _ {V : Type 0} (setup : Setup V) (world : World V) (versions : ℕ → �
   the-state = denoted setup versions descendant world
 
   -- An effect that a call has, and the action that it is.
-  record Does (call : Call V) (effect : Effect V) : Type 0 where
-    has : effect-of setup world call ≡ Some effect
-    acts : (es : List (Entry V)) → Means world (effect .message) es
+  pub record Does (call : Call V) (effect : Effect V) : Type 0 where
+    pub has : effect-of setup world call ≡ Some effect
+    pub acts : (es : List (Entry V)) → Means world (effect .message) es
         → Action setup world call the-state
         (after setup world versions descendant (node-called setup world call) (descendant-after setup world versions descendant call) effect es)
 
@@ -83,8 +83,8 @@ module _ {V : Type 0} (setup : Setup V) (world : World V) (versions : ℕ → �
     decides : decision setup world call (getD (world .nodes) (node-called setup world call) (blank setup)) ≡ Ok effect
 
   -- from a decision to the action, and back
-  record Fits (call : Call V) : Type 0 where
-    to : node-called setup world call < length (world .nodes) → (effect : Effect V)
+  pub record Fits (call : Call V) : Type 0 where
+    pub to : node-called setup world call < length (world .nodes) → (effect : Effect V)
         → decision setup world call (getD (world .nodes) (node-called setup world call) (blank setup)) ≡ Ok effect
         → Does call effect
     from : (σ′ : State V) → Action setup world call the-state σ′ → Decided call
@@ -246,7 +246,7 @@ module _ {V : Type 0} (setup : Setup V) (world : World V) (versions : ℕ → �
         record { known = a .0; effect = d .effect; has = d .has; decides = d .decides };
   }
 
-  fits : (call : Call V) → Fits call
+  pub fits : (call : Call V) → Fits call
   fits (bootstrap n) = fits-bootstrap n
   fits (start-join n d t) = fits-start-join n d t
   fits (publish n t v value configuration) = fits-publish n t v value configuration

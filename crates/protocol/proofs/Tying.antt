@@ -27,12 +27,12 @@ use Rattle.protocol.proofs.Carrying.{Sends}
 use Rattle.protocol.proofs.Placing.{in-left, in-right, in-either}
 
 -- a member of an image is the image of a member, and a member that was chosen is a member that passed
-of-map : {X Y : Type 0} (f : X → Y) (xs : List X) (y : Y) → y ∈ map f xs → (x : X) × (x ∈ xs) × (y ≡ f x)
+pub of-map : {X Y : Type 0} (f : X → Y) (xs : List X) (y : Y) → y ∈ map f xs → (x : X) × (x ∈ xs) × (y ≡ f x)
 of-map f [] y h = absurd h
 of-map f (x ∷ xs) y (inl e) = (x, inl refl, e)
 of-map f (x ∷ xs) y (inr h) = let r = of-map f xs y h in (r .0, inr (r .1), r .2)
 
-of-chosen : {X : Type 0} (test : X → Bool) (xs : List X) (x : X) → x ∈ such-that test xs → (x ∈ xs) × (test x ≡ true)
+pub of-chosen : {X : Type 0} (test : X → Bool) (xs : List X) (x : X) → x ∈ such-that test xs → (x ∈ xs) × (test x ≡ true)
 of-chosen test [] x h = absurd h
 of-chosen test (y ∷ xs) x h = go (of-chosen test xs x) (test y) refl h
   where
@@ -53,11 +53,11 @@ module _ {V : Type 0} (log log′ : List (Message V)) where
   descends-stays grown (from-base a b) = from-base a b
   descends-stays grown (by-base q d) = by-base (published-stays grown _ _ _ q) (descends-stays grown d)
 
-  sends-grown : (mo : Option (Message V)) → Sends log log′ mo → Grown log log′
+  pub sends-grown : (mo : Option (Message V)) → Sends log log′ mo → Grown log log′
   sends-grown None e m h = subst (λ (l : List (Message V)). Has l m) (sym e) h
   sends-grown (Some x) s m h = sent-adds s .keeps m h
 
-  sends-new : (mo : Option (Message V)) → Sends log log′ mo → (m : Message V) → Has log′ m → Has log m ⊎ (mo ≡ Some m)
+  pub sends-new : (mo : Option (Message V)) → Sends log log′ mo → (m : Message V) → Has log′ m → Has log m ⊎ (mo ≡ Some m)
   sends-new None e m h = inl (subst (λ (l : List (Message V)). Has l m) e h)
   sends-new (Some x) s m h = ⊎-elim (λ old. inl old) (λ is. inr (ap Some (sym is))) (sent-adds s .new m h)
 
@@ -81,13 +81,13 @@ module _ {V : Type 0} (log log′ : List (Message V)) where
           (sends-new mo s (message.Publication p) (record { entry = h .entry; there = h .there }));
     }
 
-    abbrev base-of : Publication V → model.Descendant
+    abbrev pub base-of : Publication V → model.Descendant
     base-of p = record { prevT = p .«base_term»; prevV = p .«base_version»; nextT = p .term; nextV = p .version }
 
-    abbrev follows : Publication V → model.Descendant → Bool
+    abbrev pub follows : Publication V → model.Descendant → Bool
     follows p e = eqb (e .nextT) (p .«base_term») && eqb (e .nextV) (p .«base_version»)
 
-    abbrev prolonged : Publication V → model.Descendant → model.Descendant
+    abbrev pub prolonged : Publication V → model.Descendant → model.Descendant
     prolonged p e = record { prevT = e .prevT; prevV = e .prevV; nextT = p .term; nextV = p .version }
 
     -- a publication was sent
@@ -147,21 +147,21 @@ module _ {V : Type 0} (log log′ : List (Message V)) where
 
 -- no call but a publication sends a publication
 module _ {V : Type 0} (setup : Setup V) (world : World V) where
-  silent : (concrete effect : Effect V) → _≡_ {A = Option (Effect V)} (Some concrete) (Some effect)
+  pub silent : (concrete effect : Effect V) → _≡_ {A = Option (Effect V)} (Some concrete) (Some effect)
       → ((p : Publication V) → concrete .message ≡ Some (message.Publication p) → ⊥)
       → (p : Publication V) → effect .message ≡ Some (message.Publication p) → ⊥
   silent concrete effect has quiet p h =
       let is : concrete ≡ effect = cc in
       quiet p (ap (λ (x : Effect V). x .message) is ∙ h)
 
-  no-message : (p : Publication V) → _≡_ {A = Option (Message V)} None (Some (message.Publication p)) → ⊥
+  pub no-message : (p : Publication V) → _≡_ {A = Option (Message V)} None (Some (message.Publication p)) → ⊥
   no-message p h = let z : _≡_ {A = ℕ} 0 1 = cc in omega arith
 
-  no-commit : (b : Bool) (c : Commit) (p : Publication V) → cond b (Some (message.Commit c)) None ≡ Some (message.Publication p) → ⊥
+  pub no-commit : (b : Bool) (c : Commit) (p : Publication V) → cond b (Some (message.Commit c)) None ≡ Some (message.Publication p) → ⊥
   no-commit true c p h = let z : _≡_ {A = ℕ} 0 1 = cc in omega arith
   no-commit false c p h = let z : _≡_ {A = ℕ} 0 1 = cc in omega arith
 
-  silent-delivery : (n : ℕ) (found : Option (Entry V)) (effect : Effect V) → delivery-effect setup world n found ≡ Some effect
+  pub silent-delivery : (n : ℕ) (found : Option (Entry V)) (effect : Effect V) → delivery-effect setup world n found ≡ Some effect
       → (p : Publication V) → effect .message ≡ Some (message.Publication p) → ⊥
   silent-delivery n None effect has p h = let z : _≡_ {A = ℕ} 0 1 = cc in omega arith
   silent-delivery n (Some (Err why)) effect has p h = let z : _≡_ {A = ℕ} 0 1 = cc in omega arith

@@ -25,3 +25,5 @@ pub mod Runs
 pub mod WorkedCases
 -- that the steps of the calls are the model's
 pub mod Steps
+-- runs with the model's descendant, which is descent
+pub mod Traces

@@ -1,6 +1,7 @@
 //! Theorems about the definitions, each as the contract of a function that does nothing.
 ghost use Rattle.protocol.specs.Runs.{No-run-splits-the-history};
 ghost use Rattle.protocol.specs.Steps.{Steps-are-the-models};
+ghost use Rattle.protocol.specs.Traces.{Descendant-is-descent};
 ghost use Rattle.protocol.specs.WorkedCases.{Worked-run};
 
 /// After every call of every run of a cluster, over values of any type, there is one commit per
@@ -18,4 +19,10 @@ pub fn worked_run()
 /// its beginning.
 pub fn steps_are_the_models<V>()
     ensures { λ _. ⌜ Steps-are-the-models V ⌝ }
+{}
+
+/// On runs from an opening, the public model's set `descendant` is descent, as read from the
+/// publications in the log.
+pub fn descendant_is_descent<V>()
+    ensures { λ _. ⌜ Descendant-is-descent V ⌝ }
 {}
