@@ -6,13 +6,13 @@ use Rattle.cluster.specs.States.{fresh}
 use Rattle.cluster.proofs.Freshness.{each_is_fresh, one_is_not_fresh}
 use Rattle.cluster.proofs.opening.are_fresh.Goals as goal
 
-pub returns-then-not-has-fresh : goal.returns-then-not-has-fresh
-returns-then-not-has-fresh g c = record {
-  same = c.has-fresh.ensures.same ∙ c.loop-at.invariant.0;
+pub returns-then-not-has_fresh : goal.returns-then-not-has_fresh
+returns-then-not-has_fresh g c = record {
+  same = c.has_fresh.ensures.same ∙ c.loop-at.invariant.0;
   value = sym (one_is_not_fresh (meant g.R.VotingRule.quorum c.args.setup.now) (g.B.Bank.meaning c.args.bank.now) c.loop-at.at
       (omega (arith, c.requires))
       (ap (λ (stores : List Meaning). fresh (meant g.R.VotingRule.quorum c.args.setup.now) (store_at stores c.loop-at.at).content) (sym c.loop-at.invariant.0)
-      ∙ sym c.if-not-has-fresh.ensures.value));
+      ∙ sym c.if-not-has_fresh.ensures.value));
 }
 
 pub returns : goal.returns

@@ -10,5 +10,5 @@ returns c =
     record {
       answer = search rules;
       bytes = search rules;
-      emptied = subst (λ (b : List ℕ). Empty c.args.capacity b) (sym c.write-empty.ensures) (empty_log c.args.capacity legal);
+      emptied = subst (λ (b : List ℕ). Empty c.args.capacity b) (sym c.write_empty.ensures) (empty_log c.args.capacity legal);
     }

@@ -5,10 +5,10 @@ use Rattle.message_log.proofs.encoding.encode.Goals as goal
 
 pub returns : goal.returns
 returns c =
-    let bytes = c.to-body.ensures.bytes ∙ ap body_with c.fields_of.ensures in
-    let numbers = c.to-body.ensures.one-to-one ∙ c.fields_of.ensures in
+    let bytes = c.to_body.ensures.bytes ∙ ap body_with c.fields_of.ensures in
+    let numbers = c.to_body.ensures.one_to_one ∙ c.fields_of.ensures in
     record {
       bytes = bytes;
-      one-to-one = reads_back c.args.message.now c.to-body.result (ap length c.to-body.ensures.bytes) numbers;
+      one_to_one = reads_back c.args.message.now c.to_body.result (ap length c.to_body.ensures.bytes) numbers;
       fits = sym (ap fields_in bytes) ∙ numbers;
     }

@@ -51,11 +51,11 @@ pub returns : goal.returns
 returns c =
     let bytes = c.args.bytes.now in
     let header = c.in-Some.field-0 in
-    let old = c.read-slot.result in
+    let old = c.read_slot.result in
     let new = c.apply-new.result in
     let e = c.in-Some.ensures in
     record {
-      after = bytes_after bytes c.args.change c.args.power header old new e c.read-slot.ensures c.apply-new.ensures _ _ c.next.ensures c.advance.ensures.after;
-      finished = answered bytes c.args.change c.args.power header old new e c.read-slot.ensures c.apply-new.ensures _ c.advance.ensures.finished;
-      back = λ _. back bytes c.args.change c.args.power header old new e c.read-slot.ensures c.apply-new.ensures c.advance.ensures.back;
+      after = bytes_after bytes c.args.change c.args.power header old new e c.read_slot.ensures c.apply-new.ensures _ _ c.next.ensures c.advance.ensures.after;
+      finished = answered bytes c.args.change c.args.power header old new e c.read_slot.ensures c.apply-new.ensures _ c.advance.ensures.finished;
+      back = λ _. back bytes c.args.change c.args.power header old new e c.read_slot.ensures c.apply-new.ensures c.advance.ensures.back;
     }

@@ -6,4 +6,4 @@ pub returns : goal.returns
 returns g c =
     λ log.
     called_by_step g.R.VotingRule.quorum g.B.Bank.meaning g.met.R.VotingRule.shared g.met.R.VotingRule.grows g.met.R.VotingRule.void
-    _ _ _ _ _ _ c.bootstrap-step.ensures.setup (bootstrap_beside _ _ _ log _ _ _ c.bootstrap-step.ensures.step)
+    _ _ _ _ _ _ c.bootstrap_step.ensures.setup (bootstrap_beside _ _ _ log _ _ _ c.bootstrap_step.ensures.step)

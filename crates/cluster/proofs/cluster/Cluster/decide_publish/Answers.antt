@@ -11,13 +11,13 @@ use Rattle.cluster.proofs.cluster.Cluster.decide_publish.Goals as goal
 
 pub returns : goal.returns
 returns g c = record {
-  setup = c.may-publish.ensures.setup;
-  same = c.may-publish.ensures.same;
+  setup = c.may_publish.ensures.setup;
+  same = c.may_publish.ensures.same;
   value = c.publish.ensures
       ∙ ap (λ setup.
       decided (publish_tests (meant g.R.VotingRule.quorum setup) c.in-ok-state.state c.args.term c.args.version c.args.configuration)
       (publish_effect (meant g.R.VotingRule.quorum setup) c.in-ok-state.state c.args.node c.args.term c.args.version c.args.value c.args.configuration))
-      c.may-publish.ensures.setup
+      c.may_publish.ensures.setup
       ∙ passed_on
       (publish_input_tests (meant g.R.VotingRule.quorum c.args.self.now.setup) (with_log g.B.Bank.meaning c.args.self.now c.args.log.now) c.args.node c.args.configuration)
       _ c.in-ok-state.state
@@ -30,13 +30,13 @@ returns g c = record {
 
 pub returns-in-err-state : goal.returns-in-err-state
 returns-in-err-state g c =
-    let p = err_from_is_err_and c.from-residual.result c.from-residual.ensures.1 in
+    let p = err_from_is_err_and c.from_residual.result c.from_residual.ensures.1 in
     record {
-      setup = c.may-publish.ensures.setup;
-      same = c.may-publish.ensures.same;
+      setup = c.may_publish.ensures.setup;
+      same = c.may_publish.ensures.same;
       value = p.1 ∙ ap Err p.2
           ∙ refused_on
           (publish_input_tests (meant g.R.VotingRule.quorum c.args.self.now.setup) (with_log g.B.Bank.meaning c.args.self.now c.args.log.now) c.args.node c.args.configuration)
           (node_at (alone g.B.Bank.meaning c.args.self.now) c.args.node) _ _ c.in-err-state.ensures.value;
-      known = IfOk-from_err c.from-residual.result _ c.from-residual.ensures.0;
+      known = IfOk-from_err c.from_residual.result _ c.from_residual.ensures.0;
     }

@@ -6,4 +6,4 @@ pub returns : goal.returns
 returns g c =
     λ log.
     called_by_step g.R.VotingRule.quorum g.B.Bank.meaning g.met.R.VotingRule.shared g.met.R.VotingRule.grows g.met.R.VotingRule.void
-    _ _ _ _ _ _ c.restart-step.ensures.setup (restart_beside _ _ _ log _ _ c.restart-step.ensures.step)
+    _ _ _ _ _ _ c.restart_step.ensures.setup (restart_beside _ _ _ log _ _ c.restart_step.ensures.step)

@@ -18,19 +18,19 @@ made n k body whole f entry l w e v p q = (
   q ∙ w,
 )
 
-pub returns-then-are-valid : goal.returns-then-are-valid
-returns-then-are-valid c =
+pub returns-then-are_valid : goal.returns-then-are_valid
+returns-then-are_valid c =
     let whole = c.in-Ok.ensures in
-    made c.args.nodes c.args.kind c.args.body.now c.in-Ok.body.now c.from-body.result
-    c.new.result whole.1.long whole.1.same c.from-body.ensures c.if-are-valid.ensures
+    made c.args.nodes c.args.kind c.args.body.now c.in-Ok.body.now c.from_body.result
+    c.new.result whole.1.long whole.1.same c.from_body.ensures c.if-are_valid.ensures
     c.new.ensures.kind c.new.ensures.body
 
-pub returns-else-are-valid : goal.returns-else-are-valid
-returns-else-are-valid c =
+pub returns-else-are_valid : goal.returns-else-are_valid
+returns-else-are_valid c =
     let whole = c.in-Ok.ensures in
     read_invalid c.args.nodes c.args.kind c.args.body.now
-    (ap (valid c.args.nodes c.args.kind) (ap fields_in (sym whole.1.same) ∙ sym c.from-body.ensures)
-    ∙ sym c.if-are-valid.ensures)
+    (ap (valid c.args.nodes c.args.kind) (ap fields_in (sym whole.1.same) ∙ sym c.from_body.ensures)
+    ∙ sym c.if-are_valid.ensures)
 
 pub returns-in-default : goal.returns-in-default
 returns-in-default c = read_other_length c.args.nodes c.args.kind c.args.body.now c.in-default.ensures.1

@@ -29,6 +29,6 @@ returns-in-Some c =
     let known = sym c.in-Some.ensures in
     record {
       answer = answers c.args.nodes c.args.kind c.in-Some.kind c.args.body.now known c.of_kind.result c.of_kind.ensures;
-      one-to-one = written c.args.nodes c.args.kind c.in-Some.kind c.args.body.now known c.of_kind.result
+      one_to_one = written c.args.nodes c.args.kind c.in-Some.kind c.args.body.now known c.of_kind.result
           (λ i. omega (arith, c.type-inv.body i)) c.of_kind.ensures;
     }

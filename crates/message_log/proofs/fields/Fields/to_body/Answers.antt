@@ -34,13 +34,13 @@ returns c =
     built c.args.self.now _ _ _ _ _ _ _ _ _
     c.bits.ensures
     c.bits-2.ensures
-    c.put-u32.ensures
-    c.put-u32-2.ensures
-    c.put-u32-3.ensures
-    c.put-u32-4.ensures
-    c.put-u32-5.ensures
-    c.put-u16.ensures
-    c.put-u16-2.ensures
+    c.put_u32.ensures
+    c.put_u32-2.ensures
+    c.put_u32-3.ensures
+    c.put_u32-4.ensures
+    c.put_u32-5.ensures
+    c.put_u16.ensures
+    c.put_u16-2.ensures
     in
     let h : Fitting c.args.self.now =
     record {
@@ -53,4 +53,4 @@ returns c =
       committed = omega (arith, c.bits-2.ensures);
     }
     in
-    record { bytes = e; one-to-one = ap fields_in e ∙ numbers_back c.args.self.now h }
+    record { bytes = e; one_to_one = ap fields_in e ∙ numbers_back c.args.self.now h }

@@ -5,4 +5,4 @@ use Rattle.quorum.proofs.node_set.NodeSet.intersection.Goals as goal
 
 pub returns : goal.returns
 returns c =
-    record { value = search rules; members = λ k. rw c.in-both.ensures (member-common k c.args.self c.args.other) }
+    record { value = search rules; members = λ k. rw c.in_both.ensures (member-common k c.args.self c.args.other) }
