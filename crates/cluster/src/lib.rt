@@ -1,5 +1,7 @@
 //! A cluster of nodes over a bank of stores, with a log of messages.
 
+#![tactic(auto)]
+
 mod call;
 mod calls;
 mod carrying;

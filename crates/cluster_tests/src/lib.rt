@@ -1,6 +1,8 @@
 //! Whole clusters: runs, openings, cuts, full logs and damaged ones. Expected values come from
 //! docs/PROTOCOL.md, docs/REFUSALS.md and docs/FORMATS.md.
 
+#![tactic(auto)]
+
 #[cfg(test)]
 mod cuts;
 #[cfg(test)]

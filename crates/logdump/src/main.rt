@@ -1,4 +1,6 @@
 //! Prints what a captured log holds: `logdump FILE N`, for a cluster of N nodes.
+#![tactic(auto)]
+
 mod report;
 
 use anyhow::anyhow;

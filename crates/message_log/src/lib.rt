@@ -1,5 +1,7 @@
 //! The message log: its bytes, its entries, and how messages are written into it and read again.
 
+#![tactic(auto)]
+
 mod appending;
 mod c_api;
 mod clearing;

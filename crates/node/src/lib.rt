@@ -1,5 +1,7 @@
 //! What a node decides, as functions on values. Nothing is written here: a log is only read.
 
+#![tactic(auto)]
+
 mod calls;
 mod delivery;
 mod entry;

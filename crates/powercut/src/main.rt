@@ -1,4 +1,6 @@
 //! Cuts one write to a ring at every budget, and prints what the ring then reads, and its bytes.
+#![tactic(auto)]
+
 use protocol::{Accepted, Record};
 use quorum::NodeSet;
 use std::io;

@@ -1,5 +1,7 @@
 //! The types that every layer of the protocol shares.
 
+#![tactic(auto)]
+
 mod change;
 mod kind;
 mod message;

@@ -1,5 +1,7 @@
 //! Sets of nodes and the rules by which votes make a quorum.
 
+#![tactic(auto)]
+
 mod majority;
 mod node_set;
 mod rule;

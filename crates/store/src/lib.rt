@@ -1,5 +1,7 @@
 //! What a node keeps over restarts and power cuts, and stores of any make behind one interface.
 
+#![tactic(auto)]
+
 mod bank;
 mod pair;
 mod plain;

@@ -1,5 +1,7 @@
 //! Someone else's store and someone else's bank, proved against the same traits, and tests of ours.
 
+#![tactic(auto)]
+
 mod fickle;
 mod generic;
 mod pinned;

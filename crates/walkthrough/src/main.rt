@@ -1,4 +1,6 @@
 //! Runs the worked run of docs/PROTOCOL.md, and prints the answer of each call.
+#![tactic(auto)]
+
 use anyhow::anyhow;
 use cluster::{Answer, Call, Turn, run};
 use protocol::{Record, Refusal, Term, Value, Version};
