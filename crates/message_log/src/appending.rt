@@ -63,7 +63,7 @@ fn place_of(
 {
     match find(bytes, capacity, count, kind, body) {
         Some(entry) => Ok(entry),
-        None if count < capacity => Ok(count),
+        None if capacity > count => Ok(count),
         None => Err(Fault::LogFull),
     }
 }

@@ -11,7 +11,7 @@ pub fn write_and_read<B: Bank>(
     change: Change,
     power: Power,
 ) -> Option<Record>
-    ensures { ReadAfter (meaning bank.old) at change power result }
+    ensures { ReadAfter (B.meaning bank.old) at change power result }
 {
     let _ = bank.write(at, change, power);
     bank.read(at)

@@ -29,7 +29,7 @@ appends bytes s kind other body part h k b =
 pub returns : goal.returns
 returns c =
     let e =
-    appends c.args.bytes.now c.in-ok-sizes.sizes _ _ _ _ c.in-ok-sizes.ensures
+    appends c.args.bytes.now c.in_ok-sizes.sizes _ _ _ _ c.in_ok-sizes.ensures
     (c.number.ensures ∙ ap kind_number c.kind.ensures)
     c.encode.ensures.bytes
     in

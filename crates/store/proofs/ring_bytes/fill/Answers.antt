@@ -27,8 +27,8 @@ both bytes first second slot p q new term state power more left last t s at_p at
 
 pub returns : goal.returns
 returns c =
-    let w = both c.args.bytes.now _ _ c.args.slot _ _ c.args.new _ _ c.args.power c.in-ok-power.power c.write_at.result c.write_at-2.result
+    let w = both c.args.bytes.now _ _ c.args.slot _ _ c.args.new _ _ c.args.power c.in_ok-power.power c.write_at.result c.write_at-2.result
     c.to_be_bytes-term.ensures c.encode_state-state.ensures.bytes c.find_term.ensures (c.find_state.ensures ∙ ap (λ k. state_place k c.args.slot) c.requires.inside.0)
-    c.write_at.ensures.after c.write_at.ensures.left c.in-ok-power.was
+    c.write_at.ensures.after c.write_at.ensures.left c.in_ok-power.was
     c.write_at-2.ensures.after c.write_at-2.ensures.left in
     record { after = w.0; left = w.1; back = c.encode_state-state.ensures.back }

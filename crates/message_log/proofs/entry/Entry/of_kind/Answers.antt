@@ -32,5 +32,5 @@ returns-else-are_valid c =
     (ap (valid c.args.nodes c.args.kind) (ap fields_in (sym whole.1.same) ∙ sym c.from_body.ensures)
     ∙ sym c.if-are_valid.ensures)
 
-pub returns-in-default : goal.returns-in-default
-returns-in-default c = read_other_length c.args.nodes c.args.kind c.args.body.now c.in-default.ensures.1
+pub returns-in_default : goal.returns-in_default
+returns-in_default c = read_other_length c.args.nodes c.args.kind c.args.body.now c.in_default.ensures.1

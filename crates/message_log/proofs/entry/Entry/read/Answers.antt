@@ -30,5 +30,5 @@ returns-in-Some c =
     record {
       answer = answers c.args.nodes c.args.kind c.in-Some.kind c.args.body.now known c.of_kind.result c.of_kind.ensures;
       one_to_one = written c.args.nodes c.args.kind c.in-Some.kind c.args.body.now known c.of_kind.result
-          (λ i. omega (arith, c.type-inv.body i)) c.of_kind.ensures;
+          (λ i. omega (arith, c.type_inv.body i)) c.of_kind.ensures;
     }

@@ -7,10 +7,10 @@ pub returns-then-at-len : goal.returns-then-at-len
 returns-then-at-len g c =
     let meaning = g.S.Store.meaning in
     let items = vec_items c.args.self.now.stores in
-    let s = c.index-mut.result.now in
+    let s = c.index_mut.result.now in
     record {
-      value = asked_inside meaning items c.from-at.result c.args.at c.from-at.ensures (λ (store : Meaning). store.content) s (omega (arith, c.args.self.now.stores.ok.0)) c.index-mut.ensures.value c.read.result c.read.ensures.value;
-      same = same_inside meaning items c.from-at.result c.args.at c.from-at.ensures s c.read.new.self c.index-mut.ensures.value c.read.ensures.same;
+      value = asked_inside meaning items c.from-at.result c.args.at c.from-at.ensures (λ (store : Meaning). store.content) s (omega (arith, c.args.self.now.stores.ok.0)) c.index_mut.ensures.value c.read.result c.read.ensures.value;
+      same = same_inside meaning items c.from-at.result c.args.at c.from-at.ensures s c.read.new.self c.index_mut.ensures.value c.read.ensures.same;
     }
 
 pub returns-else-at-len : goal.returns-else-at-len

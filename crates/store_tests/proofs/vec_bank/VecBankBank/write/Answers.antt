@@ -5,7 +5,7 @@ use Rattle.store_tests.proofs.vec_bank.VecBankBank.write.Goals as goal
 pub returns-then-at-len : goal.returns-then-at-len
 returns-then-at-len g c =
     written_inside g.S.Store.meaning (vec_items c.args.self.now.stores) c.from-at.result c.args.at c.from-at.ensures c.args.change c.args.power
-    c.index-mut.result.now c.write.new.self c.write.result (omega (arith, c.args.self.now.stores.ok.0)) c.index-mut.ensures.value c.write.ensures.written
+    c.index_mut.result.now c.write.new.self c.write.result (omega (arith, c.args.self.now.stores.ok.0)) c.index_mut.ensures.value c.write.ensures.written
 
 pub returns-else-at-len : goal.returns-else-at-len
 returns-else-at-len g c =
