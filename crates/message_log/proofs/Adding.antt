@@ -1,5 +1,5 @@
 -- A log with one more entry, and an empty one.
-use Rattle.std.proofs.Common.{◌≡◌, ℕ, zero, suc, ◌+◌, ◌-◌, ◌*◌, ◌<◌, ◌≤◌, Bool, true, false, ◌&&◌, eqb, ltb, leb, List, [], ◌∷◌, ◌++◌, map, length, get_or, take, drop, replicate, is_some, IfOk, Some, None, Ok, Err, Option, Result, sym, refl, ap, ◌∙◌, subst, ap₂, inl, inr, arith}
+use Rattle.std.proofs.Common.{◌≡◌, ℕ, zero, suc, ◌+◌, ◌-◌, ◌*◌, ◌<◌, ◌≤◌, Bool, true, false, eqb, ltb, leb, List, [], ◌∷◌, ◌++◌, map, length, get_or, take, drop, replicate, is_some, IfOk, Some, None, Ok, Err, Option, Result, sym, refl, ap, ◌∙◌, subst, ap₂, inl, inr, arith}
 use Rattle.std.specs.List.{range_with_len}
 use Rattle.std.specs.Option.{option_map}
 use Rattle.std.proofs.lemmas.List.FromFn.{map-range_with_len_more, length-map-range_with_len}
@@ -8,10 +8,10 @@ use Rattle.std.proofs.lemmas.Slice.Eq.{bytes_eq-Decides}
 use Rattle.std.proofs.lemmas.Bool.{and_parts, and_from, leb-true, le-leb, eqb-true, eq-eqb, ltb-true, cond-true, cond-false}
 use Rattle.message_log.specs.declared.fault.Fault.{Fault}
 use Rattle.message_log.specs.declared.fault.Fault.TheVariants.{IllFormedLog, LogFull}
-use Rattle.message_log.specs.Layout.{put, in_two, two, capacity_of, count_of, log_length, legal_capacity, well_formed, kind_place, body_place, body_length}
+use Rattle.message_log.specs.Layout.{put, in_two, capacity_of, count_of, log_length, legal_capacity, well_formed, kind_place, body_place}
 use Rattle.protocol.specs.Positions.{position}
 use Rattle.message_log.specs.Log.{Stored, stored_at, entries, same_stored, added, add_unless, append_to, Outcome, cleared}
-use Rattle.message_log.specs.Added.{Empty, Holds, with_entry}
+use Rattle.message_log.specs.Added.{Empty, Holds}
 use Rattle.message_log.proofs.Puts.{length-put, byte_put}
 use Rattle.message_log.proofs.PutThenRead as read
 use Rattle.message_log.proofs.RoundTrip.{two_back}

@@ -1,5 +1,5 @@
 -- A log that is the encoding of a list of messages: what it reads as, and one message more.
-use Rattle.std.proofs.Common.{◌≡◌, ℕ, zero, suc, ◌<◌, ◌≤◌, Bool, true, false, cond, eqb, ltb, List, [], ◌∷◌, ◌++◌, map, length, get_or, is_some, Some, None, Ok, Err, Option, Result, sym, refl, ap, ◌∙◌, subst, ap₂, ⊎_elim, arith}
+use Rattle.std.proofs.Common.{◌≡◌, ℕ, zero, suc, ◌<◌, ◌≤◌, Bool, true, false, cond, eqb, ltb, List, [], ◌∷◌, ◌++◌, map, length, get_or, is_some, Some, None, Ok, Err, Option, Result, sym, refl, ap, ◌∙◌, ap₂, ⊎_elim, arith}
 use Rattle.std.specs.List.{slice_get, AllByRecursion as All}
 use Rattle.std.specs.Option.{option_map}
 use Rattle.std.proofs.lemmas.List.FromFn.{length-map-range_with_len, get_or-map-range_with_len}
@@ -19,10 +19,9 @@ use Rattle.message_log.specs.declared.fault.Fault.{Fault}
 use Rattle.message_log.specs.Body.{fields_in}
 use Rattle.message_log.specs.Faults.{refusal_of}
 use Rattle.message_log.specs.Layout.{legal_capacity, well_formed, capacity_of, count_of}
-use Rattle.message_log.specs.Rules.{read_message, message_with, fields_of, body_of, Fits}
-use Rattle.message_log.specs.Log.{Stored, stored_at, entries, same_stored, stored_as, added, append_to, add_unless, Outcome, look_up_in, read_as, found_as, message_at, cleared}
-use Rattle.message_log.specs.Added.{Holds, with_entry}
-use Rattle.message_log.specs.Encoded.{with_all, encoding, Encodes}
+use Rattle.message_log.specs.Rules.{message_with, body_of, Fits}
+use Rattle.message_log.specs.Log.{Stored, stored_at, entries, same_stored, stored_as, added, read_as, found_as, message_at, cleared}
+use Rattle.message_log.specs.Encoded.{with_all, Encodes}
 use Rattle.message_log.proofs.Adding.{holds_added, empty_log, same_itself}
 use Rattle.message_log.proofs.RoundTrip.{message_again, reads_back}
 

@@ -1,6 +1,6 @@
 -- The nine numbers of a body, and their places: source 1 byte, destination 1, term 4, version 4, base term 4,
 -- base version 4, value 4, configuration 2, committed configuration 2.
-use Rattle.std.specs.Prelude.{ℕ, List, [], ◌∷◌, ◌++◌, slice_index}
+use Rattle.std.specs.Prelude.{ℕ, List, ◌∷◌, ◌++◌, slice_index}
 use Rattle.message_log.specs.declared.fields.Fields.{Fields}
 use Rattle.message_log.specs.Layout.{two, four, in_two, in_four}
 

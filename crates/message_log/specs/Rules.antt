@@ -1,5 +1,5 @@
 -- Which bodies are valid, and the message that each is.
-use Rattle.std.specs.Prelude.{◌≡◌, ℕ, Bool, true, cond, ◌&&◌, List, length, Some, None, Ok, Err, Option, Result, ◌==◌, nat_lt}
+use Rattle.std.specs.Prelude.{◌≡◌, ℕ, Bool, true, cond, ◌&&◌, List, length, Some, None, Ok, Err, Result, ◌==◌, nat_lt}
 use Rattle.quorum.specs.Sets.{nobody, legal_configuration}
 use Rattle.protocol.specs.declared.kind.Kind.{Kind}
 use Rattle.protocol.specs.declared.kind.Kind.TheVariants as kind

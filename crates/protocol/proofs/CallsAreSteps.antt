@@ -1,10 +1,10 @@
 -- A call leaves the world as it was, or is a step of the protocol.
-use Rattle.std.proofs.Common.{◌≡◌, ℕ, zero, suc, ◌<◌, ◌≤◌, Bool, true, false, cond, not, ◌&&◌, ◌||◌, eqb, ltb, leb, ◌⊎◌, List, [], ◌∷◌, ◌++◌, map, length, get_or, set, Some, None, Ok, Err, Decides, Option, Result, sym, refl, ap, ◌∙◌, subst, inl, inr, ⊎_elim, arith}
+use Rattle.std.proofs.Common.{◌≡◌, ℕ, zero, suc, ◌<◌, Bool, true, false, not, ◌&&◌, eqb, ltb, leb, ◌⊎◌, List, [], ◌∷◌, length, get_or, set, Some, None, Ok, Err, Decides, Option, Result, sym, refl, ap, ◌∙◌, subst, inl, inr, ⊎_elim, arith}
 use Rattle.std.specs.List.{slice_get}
 use Rattle.std.proofs.lemmas.List.{get_or-set_same, get_or-set_other}
-use Rattle.std.proofs.lemmas.Bool.{cond-true, cond-false, and_parts, and_cases, or_parts, not-false, leb-false, ltb-false, eqb-true, eqb-false, false≢true, true≢false, both_ways}
+use Rattle.std.proofs.lemmas.Bool.{cond-true, cond-false, and_cases, or_parts, not-false, leb-false, ltb-false, eqb-true, eqb-false, both_ways}
 use Rattle.quorum.specs.declared.node_set.NodeSet.{NodeSet}
-use Rattle.quorum.specs.Sets.{nobody, with_node, legal_configuration}
+use Rattle.quorum.specs.Sets.{with_node, legal_configuration}
 use Rattle.quorum.specs.Laws.{Shared, Grows, Void}
 use Rattle.protocol.specs.declared.change.Change.{Change}
 use Rattle.protocol.specs.declared.message.Message.{Message}
@@ -46,11 +46,10 @@ use Rattle.protocol.specs.Decisions.{
   restart_effect,
   deliver_decided,
 }
-use Rattle.protocol.specs.Calls.{Entry, entries_of, World, Fate, Outcome, Call, bootstrap, start_join, publish, deliver, restart, fresh_node, with_node_at, addressed, decided_on, carried_out, if_known, on_node, nodes_count, node_called, decision, called}
+use Rattle.protocol.specs.Calls.{Entry, entries_of, World, Fate, Call, bootstrap, start_join, publish, deliver, restart, fresh_node, addressed, decided_on, carried_out, if_known, on_node, nodes_count, node_called, decision, called}
 use Rattle.protocol.proofs.Setting.{Setting}
 use Rattle.protocol.proofs.Log as messages
 use Rattle.protocol.proofs.Points.{Upto}
-use Rattle.protocol.proofs.Effects.{StateOfNode}
 use Rattle.protocol.proofs.Steps as step
 use Rattle.protocol.proofs.Deciding.{Passed, taken}
 use Rattle.protocol.proofs.Sending.{same_bits}

@@ -1,7 +1,6 @@
 -- A decision that is taken: no test refused, and the effect is the one that was defined.
 use Rattle.std.proofs.Common.{◌≡◌, ℕ, Bool, true, false, List, [], ◌∷◌, Ok, Err, sym, refl, ◌∙◌, arith}
 use Rattle.std.proofs.lemmas.Bool.{cond-true, cond-false}
-use Rattle.protocol.specs.declared.refusal.Refusal.{Refusal}
 use Rattle.protocol.specs.Decisions.{Test, decided}
 
 -- no test of the list refuses

@@ -1,5 +1,5 @@
 -- On runs the model's set descendant is descent, as read from the publications in the log.
-use Rattle.std.proofs.Common.{◌≡◌, ℕ, ◌<◌, Bool, true, false, cond, ◌&&◌, eqb, ◌⊎◌, List, [], ◌∷◌, ◌++◌, map, length, get_or, Some, None, Ok, Err, Option, Result, sym, refl, ap, ◌∙◌, subst, ap₂, inl, inr, ⊎_elim, arith}
+use Rattle.std.proofs.Common.{◌≡◌, ℕ, ◌<◌, Bool, true, false, cond, ◌&&◌, eqb, ◌⊎◌, List, [], ◌∷◌, ◌++◌, map, length, get_or, Some, None, Ok, Err, Option, Result, sym, refl, ap, ◌∙◌, subst, inl, inr, ⊎_elim, arith}
 use Rattle.std.specs.List.{slice_get}
 use Rattle.std.proofs.lemmas.Bool.{and_parts, and_from, eqb-true, eq-eqb}
 use Rattle.protocol.specs.declared.change.Change.{Change}
@@ -7,15 +7,15 @@ use Rattle.protocol.specs.declared.message.Message.{Message}
 use Rattle.protocol.specs.declared.message.Message.TheVariants as message
 use Rattle.protocol.specs.declared.message.Publication.{Publication}
 use Rattle.protocol.specs.declared.refusal.Refusal.{Refusal}
-use Rattle.protocol.specs.Decisions.{Node, Setup, Effect, publish_effect}
+use Rattle.protocol.specs.Decisions.{Setup, Effect, publish_effect}
 use Rattle.protocol.specs.Calls.{Entry, entries_of, World, Fate, Outcome, Call, bootstrap, start_join, publish, deliver, restart, called, node_called, decision}
-use Rattle.protocol.specs.History.{Published, Descends, from_base, by_base}
+use Rattle.protocol.specs.History.{Descends, from_base, by_base}
 use Rattle.protocol.specs.Runs.{Lawful, Opened, Reached}
 use Rattle.protocol.specs.Runs as runs
 use Rattle.protocol.specs.Model as model
 use Rattle.protocol.specs.Model.{◌∈◌, ◌∪◌, ❴◌❵, such_that}
 use Rattle.protocol.specs.Steps.{messages_of, Tied, blank, effect_of, descendant_after, Room, CutShort, Taken}
-use Rattle.protocol.specs.Traces.{descendant_then, Traced, at_opening, by_call, pair, IsDescent, DescendantIsDescent}
+use Rattle.protocol.specs.Traces.{descendant_then, Traced, at_opening, by_call, pair, DescendantIsDescent}
 use Rattle.protocol.proofs.Setting.{Setting}
 use Rattle.protocol.proofs.Log as messages
 use Rattle.protocol.proofs.Log.{Has}
@@ -24,8 +24,8 @@ use Rattle.protocol.proofs.Certificates.{published_has}
 use Rattle.protocol.proofs.LogInvariant.{LogInvariant}
 use Rattle.protocol.proofs.Safety.{reached_has_invariant}
 use Rattle.protocol.proofs.Carrying.{Sends}
-use Rattle.protocol.proofs.Unsplit.{Stepped, stepped, the_setting}
-use Rattle.protocol.proofs.Placing.{in_left, in_right, in_either, Went, went, Ended, ended, through, halted, unmoved, halts}
+use Rattle.protocol.proofs.Unsplit.{stepped, the_setting}
+use Rattle.protocol.proofs.Placing.{in_left, in_right, in_either, went, Ended, ended, through, halted, unmoved, halts}
 use Rattle.protocol.proofs.Tying.{of_map, of_chosen, sends_new, silent, no_message, silent_delivery}
 use Rattle.protocol.proofs.Stepping.{in_map, fits, steps_are_the_models}
 

@@ -3,9 +3,7 @@ use Rattle.std.proofs.Common.{◌≡◌, ℕ, ◌⊎◌, List, [], ◌∷◌, sy
 use Rattle.quorum.specs.declared.node_set.NodeSet.{NodeSet}
 use Rattle.protocol.specs.declared.message.Message.{Message}
 use Rattle.protocol.specs.declared.message.Message.TheVariants as message
-use Rattle.protocol.specs.declared.message.Join.{Join}
 use Rattle.protocol.specs.declared.message.Publication.{Publication}
-use Rattle.protocol.specs.declared.message.Response.{Response}
 use Rattle.protocol.specs.declared.message.Commit.{Commit}
 use Rattle.protocol.specs.History.{Published}
 use Rattle.protocol.proofs.Setting.{Setting}

@@ -6,10 +6,8 @@ use Rattle.protocol.specs.declared.record.Record.{Record}
 use Rattle.protocol.specs.declared.volatile.Volatile.{Volatile}
 use Rattle.protocol.specs.declared.message.Message.{Message}
 use Rattle.protocol.specs.declared.message.Message.TheVariants as message
-use Rattle.protocol.specs.declared.message.Join.{Join}
 use Rattle.protocol.specs.declared.message.Publication.{Publication}
 use Rattle.protocol.specs.declared.message.Response.{Response}
-use Rattle.protocol.specs.declared.message.Commit.{Commit}
 use Rattle.protocol.proofs.Setting.{Setting}
 use Rattle.protocol.proofs.Log.{Sent, Adds, sent_adds}
 use Rattle.protocol.proofs.Points.{upto_itself}

@@ -1,19 +1,15 @@
 -- Equal messages, and the log after a message is sent.
-use Rattle.std.proofs.Common.{◌≡◌, ℕ, zero, suc, Bool, true, false, ◌&&◌, eqb, List, [], ◌∷◌, length, Some, None, Ok, Err, Decides, Option, sym, refl, ap, ◌∙◌, arith}
+use Rattle.std.proofs.Common.{◌≡◌, ℕ, zero, suc, Bool, true, false, eqb, List, [], ◌∷◌, Some, None, Decides, Option, sym, refl, ap, ◌∙◌, arith}
 use Rattle.std.specs.List.{slice_get}
 use Rattle.std.specs.Option.{option_map}
 use Rattle.std.proofs.lemmas.Bool.{and_parts, and_from, eqb-true, eq-eqb, cond-true, cond-false, false≢true, both_ways}
 use Rattle.quorum.specs.declared.node_set.NodeSet.{NodeSet}
-use Rattle.protocol.specs.declared.message.Join.{Join}
 use Rattle.protocol.specs.declared.message.Publication.{Publication}
-use Rattle.protocol.specs.declared.message.Response.{Response}
-use Rattle.protocol.specs.declared.message.Commit.{Commit}
 use Rattle.protocol.specs.declared.message.Message.{Message}
 use Rattle.protocol.specs.declared.message.Message.TheVariants as message
-use Rattle.protocol.specs.declared.refusal.Refusal.{Refusal}
 use Rattle.protocol.specs.Decisions.{Setup, same_set}
 use Rattle.protocol.specs.Positions.{position}
-use Rattle.protocol.specs.Calls.{Entry, entries_of, same_message, is_message}
+use Rattle.protocol.specs.Calls.{entries_of, same_message, is_message}
 use Rattle.protocol.proofs.Log.{Has}
 
 pub same_bits : (a b : NodeSet) → same_set a b ≡ true → a ≡ b

@@ -6,10 +6,6 @@ use Rattle.std.proofs.lemmas.Bool.{cond-true, cond-false, cases_Bool, eqb-true, 
 use Rattle.quorum.specs.declared.node_set.NodeSet.{NodeSet}
 use Rattle.quorum.specs.Sets.{legal_configuration, Configuration}
 use Rattle.quorum.specs.MembersLemmas.{configuration_by_members}
-use Rattle.protocol.specs.declared.message.Join.{Join}
-use Rattle.protocol.specs.declared.message.Publication.{Publication}
-use Rattle.protocol.specs.declared.message.Response.{Response}
-use Rattle.protocol.specs.declared.message.Commit.{Commit}
 use Rattle.protocol.specs.declared.message.Message.TheVariants as message
 use Rattle.protocol.specs.declared.change.Change.{Change}
 use Rattle.protocol.specs.declared.record.Record.{Record}

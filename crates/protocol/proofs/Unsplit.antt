@@ -2,9 +2,9 @@
 use Rattle.std.proofs.Common.{◌≡◌, ℕ, zero, suc, ◌⊎◌, List, [], ◌∷◌, map, get_or, sym, refl, ap, ◌∙◌, subst, inl, inr}
 use Rattle.protocol.specs.declared.message.Message.{Message}
 use Rattle.protocol.specs.Decisions.{Node, Setup}
-use Rattle.protocol.specs.Calls.{World, Fate, Call, entries_of, fresh_node, called}
+use Rattle.protocol.specs.Calls.{World, entries_of, fresh_node, called}
 use Rattle.protocol.specs.History.{OneHistory}
-use Rattle.protocol.specs.Runs.{Lawful, Opened, Reached, at_opening, by_call, Unsplit, NoRunSplitsTheHistory}
+use Rattle.protocol.specs.Runs.{Lawful, Reached, at_opening, by_call, NoRunSplitsTheHistory}
 use Rattle.protocol.proofs.Setting.{Setting}
 use Rattle.protocol.proofs.Steps as step
 use Rattle.protocol.proofs.CallsAreSteps.{setting, state_of, After, call_steps}

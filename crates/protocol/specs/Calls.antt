@@ -1,12 +1,11 @@
 -- What a call does to a cluster: its answer, and the world that it leaves.
-use Rattle.std.specs.Prelude.{ℕ, Bool, true, false, cond, not, ◌&&◌, ◌||◌, List, [], ◌∷◌, ◌++◌, map, length, Some, None, Ok, Err, Option, Result, ◌==◌, nat_le, nat_lt, slice_set}
+use Rattle.std.specs.Prelude.{ℕ, Bool, true, false, cond, not, ◌&&◌, List, [], ◌∷◌, ◌++◌, map, length, Some, None, Ok, Err, Option, Result, ◌==◌, nat_le, nat_lt, slice_set}
 use Rattle.std.specs.List.{slice_get}
 use Rattle.quorum.specs.declared.node_set.NodeSet.{NodeSet}
 use Rattle.quorum.specs.Sets.{nobody, legal_configuration}
 use Rattle.protocol.specs.declared.change.Change.{Change}
 use Rattle.protocol.specs.declared.message.Message.{Message}
 use Rattle.protocol.specs.declared.message.Message.TheVariants as message
-use Rattle.protocol.specs.declared.record.Record.{Record}
 use Rattle.protocol.specs.declared.refusal.Refusal.{Refusal}
 use Rattle.protocol.specs.declared.refusal.Refusal.TheVariants.{
   UnknownNode,
@@ -16,25 +15,8 @@ use Rattle.protocol.specs.declared.refusal.Refusal.TheVariants.{
   LogFull,
   WriteUnfinished,
 }
-use Rattle.protocol.specs.declared.volatile.Volatile.{Volatile}
 use Rattle.protocol.specs.Changes.{changed}
-use Rattle.protocol.specs.Decisions.{
-  Node,
-  Setup,
-  Effect,
-  Test,
-  decided,
-  same_set,
-  restarted,
-  bootstrap_tests,
-  bootstrap_effect,
-  start_join_tests,
-  start_join_effect,
-  publish_tests,
-  publish_effect,
-  restart_effect,
-  deliver_decided,
-}
+use Rattle.protocol.specs.Decisions.{Node, Setup, Effect, decided, same_set, restarted, bootstrap_tests, bootstrap_effect, start_join_tests, start_join_effect, publish_tests, publish_effect, restart_effect, deliver_decided}
 use Rattle.protocol.specs.Positions.{position}
 
 -- An entry of a log: a message, or the refusal with which reading it ends (its kind is unknown, or its body against the

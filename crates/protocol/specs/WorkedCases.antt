@@ -1,11 +1,11 @@
 -- A worked run: three nodes elect a leader, agree on a value, and refuse what would go too far.
-use Rattle.std.specs.Prelude.{◌≡◌, ℕ, Bool, true, eqb, List, [], ◌∷◌, map, Some, None, Ok, Err, Option, Result}
+use Rattle.std.specs.Prelude.{◌≡◌, ℕ, true, eqb, List, [], ◌∷◌, map, Some, None, Ok, Err, Option, Result}
 use Rattle.quorum.specs.declared.node_set.NodeSet.{NodeSet}
 use Rattle.quorum.specs.Rules.{majority}
 use Rattle.protocol.specs.declared.refusal.Refusal.{Refusal}
 use Rattle.protocol.specs.declared.refusal.Refusal.TheVariants.{AlreadyAccepted, NoJoinQuorum}
 use Rattle.protocol.specs.Decisions.{Setup}
-use Rattle.protocol.specs.Calls.{World, Fate, Call, bootstrap, start_join, publish, deliver, restart, fresh_node, called}
+use Rattle.protocol.specs.Calls.{World, Fate, Call, bootstrap, start_join, publish, deliver, fresh_node, called}
 
 -- the sets {0, 1, 2} and {2}
 abbrev pub three : NodeSet

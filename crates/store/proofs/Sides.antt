@@ -5,7 +5,6 @@ use Rattle.std.proofs.lemmas.Bool.{ltb-true, ltb-false}
 use Rattle.std.proofs.lemmas.Bool.Decides.{nat_tests}
 use Rattle.store.specs.Banks.{most_counted, absent, store_at, asked, all_sound, place_in_pair, BankWritten}
 use Rattle.store.specs.Stores.{Meaning, finishes, after_write}
-use Rattle.store.specs.declared.pair.Place.{Place}
 use Rattle.store.specs.declared.pair.Place.TheVariants.{Left, Right}
 use Rattle.protocol.specs.declared.change.Change.{Change}
 use Rattle.store.specs.declared.power.Power.{Power}

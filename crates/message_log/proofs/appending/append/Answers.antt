@@ -4,7 +4,7 @@ use Rattle.protocol.specs.Kinds.{kind_number}
 use Rattle.message_log.specs.declared.fault.Fault.TheVariants.{IllFormedLog}
 use Rattle.message_log.specs.declared.header.Sizes.{Sizes}
 use Rattle.message_log.specs.Layout.{well_formed}
-use Rattle.message_log.specs.Log.{Stored, sizes_of, append_entry, append_to, stored_as, Outcome}
+use Rattle.message_log.specs.Log.{sizes_of, append_entry, append_to, stored_as, Outcome}
 use Rattle.message_log.proofs.Adding.{holds_answered}
 use Rattle.message_log.proofs.appending.append.Goals as goal
 

@@ -1,4 +1,4 @@
-use Rattle.std.proofs.Common.{◌≡◌, ℕ, ◌<◌, sym, ap, ◌∙◌, arith}
+use Rattle.std.proofs.Common.{sym, arith}
 use Rattle.message_log.specs.Log.{same_stored, stored_at}
 use Rattle.message_log.proofs.Lowest.{none_at_all, lowest_of_all}
 use Rattle.message_log.proofs.appending.find.Goals as goal

@@ -1,4 +1,4 @@
-use Rattle.std.proofs.Common.{length, sym, refl, ap, ◌∙◌}
+use Rattle.std.proofs.Common.{length, sym, ap, ◌∙◌}
 use Rattle.message_log.specs.Body.{fields_in, body_with}
 use Rattle.message_log.proofs.RoundTrip.{reads_back}
 use Rattle.message_log.proofs.encoding.encode.Goals as goal

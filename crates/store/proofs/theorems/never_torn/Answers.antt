@@ -1,7 +1,6 @@
-use Rattle.std.proofs.Common.{◌≡◌, ℕ, Bool, true, false, cond, ◌&&◌, ◌||◌, leb, ◌⊎◌, sym, refl, ap, ◌∙◌, inl, inr}
-use Rattle.protocol.specs.declared.record.Record.{Record}
+use Rattle.std.proofs.Common.{◌≡◌, ℕ, Bool, true, false, cond, ◌&&◌, ◌||◌, leb, ◌⊎◌, sym, ap, ◌∙◌, inl, inr}
 use Rattle.protocol.specs.Changes.{changed}
-use Rattle.store.specs.Stores.{Meaning, finishes, after_write, Written}
+use Rattle.store.specs.Stores.{Meaning, finishes, Written}
 use Rattle.protocol.specs.declared.change.Change.{Change}
 use Rattle.store.specs.declared.power.Power.{Power}
 use Rattle.store.proofs.NeverTorn.{unsound_stays}

@@ -1,4 +1,4 @@
-use Rattle.std.proofs.Common.{◌≡◌, ℕ, List, [], ◌∷◌, replicate, ap, ◌∙◌, ap₂, arith}
+use Rattle.std.proofs.Common.{◌≡◌, ℕ, List, ◌∷◌, replicate, ap, ◌∙◌, ap₂, arith}
 use Rattle.message_log.specs.declared.fields.Fields.{Fields}
 use Rattle.message_log.specs.Layout.{put, in_two, in_four}
 use Rattle.message_log.specs.Body.{fields_in, body_with}

@@ -1,4 +1,4 @@
-use Rattle.std.proofs.Common.{sym, ◌∙◌}
+use Rattle.std.proofs.Common.{sym}
 use Rattle.store.proofs.Sides.{all_sound_append}
 use Rattle.store.proofs.pair.PairBank.all_sound.Goals as goal
 

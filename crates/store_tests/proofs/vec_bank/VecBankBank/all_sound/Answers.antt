@@ -1,4 +1,4 @@
-use Rattle.std.proofs.Common.{vec_items, sym, ◌∙◌}
+use Rattle.std.proofs.Common.{vec_items, sym}
 use Rattle.store_tests.proofs.InList.{all_seen, found_unsound, one_more_sound}
 use Rattle.store_tests.proofs.vec_bank.VecBankBank.all_sound.Goals as goal
 
