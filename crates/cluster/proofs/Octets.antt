@@ -1,6 +1,6 @@
 -- Lists whose numbers are bytes, and that a log of legal messages is one.
 use Rattle.std.proofs.Common.{◌≡◌, ℕ, zero, suc, ◌+◌, ◌*◌, ◌/◌, ◌%◌, ◌<◌, ◌≤◌, true, ltb, List, [], ◌∷◌, ◌++◌, length, get_or, take, drop, set, replicate, Some, Ok, refl, arith}
-use Rattle.std.specs.List.{slice_get, AllByRecursion as All}
+use Rattle.std.specs.List.{slice_get, AllByRecursion}
 use Rattle.std.proofs.lemmas.Bool.{and_parts, ltb-true}
 use Rattle.protocol.specs.declared.message.Message.{Message}
 use Rattle.protocol.specs.declared.message.Message.TheVariants.{Join, Publication, Response, Commit}
@@ -110,18 +110,18 @@ module _ (n : ℕ) (few : n ≤ 16) where
       (of_set _ (kind_place (count_of bytes)) (kind_number (kind_of m)) (of_kind m)
       (of_put (body_place (capacity_of bytes) (count_of bytes)) (body_of m) bytes (of_message m h) o))
 
-  of_all : (messages : List (Message ℕ)) → All (λ m. legal_message n m ≡ true) messages → (bytes : List ℕ) → Octets bytes → Octets (with_all bytes messages)
+  of_all : (messages : List (Message ℕ)) → AllByRecursion (λ m. legal_message n m ≡ true) messages → (bytes : List ℕ) → Octets bytes → Octets (with_all bytes messages)
   unfolding with_all
   of_all [] h bytes o = o
   of_all (m ∷ messages) h bytes o = of_all messages h.1 (added bytes (stored_as m)) (of_added bytes m h.0 o)
 
   -- the encoding of legal messages
-  pub of_encoding : (c : ℕ) (messages : List (Message ℕ)) → All (λ m. legal_message n m ≡ true) messages → Octets (encoding c messages)
+  pub of_encoding : (c : ℕ) (messages : List (Message ℕ)) → AllByRecursion (λ m. legal_message n m ≡ true) messages → Octets (encoding c messages)
   of_encoding c messages h =
       of_all messages h (cleared c) (both (of_two c) (zeros (2 + 27 * c)))
 
 -- what holds of each entry holds of each message
 pub of_each : (P : Message ℕ → Type 0) (messages : List (Message ℕ))
-    → ((e : ℕ) (m : Message ℕ) → slice_get {X = Entry ℕ} (entries_of messages) e ≡ Some (Ok m) → P m) → All P messages
+    → ((e : ℕ) (m : Message ℕ) → slice_get {X = Entry ℕ} (entries_of messages) e ≡ Some (Ok m) → P m) → AllByRecursion P messages
 of_each P [] h = tt
 of_each P (m ∷ messages) h = (h 0 m refl, of_each P messages (λ e x k. h (suc e) x k))

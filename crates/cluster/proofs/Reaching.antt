@@ -1,6 +1,6 @@
 -- States that calls reach denote worlds that calls on messages reach, and their bytes are messages.
 use Rattle.std.proofs.Common.{◌≡◌, ℕ, ◌<◌, ◌≤◌, Bool, true, false, ltb, ◌⊎◌, List, [], ◌∷◌, ◌++◌, map, length, replicate, is_some, Some, None, Ok, Err, Option, Result, sym, refl, ap, ◌∙◌, subst, inl, inr, ⊎_elim, arith}
-use Rattle.std.specs.List.{slice_get, AllByRecursion as All}
+use Rattle.std.specs.List.{slice_get, AllByRecursion}
 use Rattle.std.proofs.ByRecursion.{All-push}
 use Rattle.std.proofs.lemmas.List.{map_push, map-append}
 use Rattle.std.proofs.lemmas.Bool.{cond-true, cond-false, ltb-true, cases_lt}
@@ -40,7 +40,7 @@ use Rattle.cluster.proofs.Openings.{Open, open_if_not_refused, opened_on_message
 pub record Written (n : ℕ) (bytes : List ℕ) : Type 0 where
   pub messages : List (Message ℕ)
   pub encodes : Encodes (capacity_of bytes) messages bytes
-  pub fit : All Fits messages
+  pub fit : AllByRecursion Fits messages
   pub readable : entries_read n bytes ≡ entries_of messages
 
 pub written-cleared : (n capacity : ℕ) → legal_capacity capacity ≡ true → Written n (cleared capacity)

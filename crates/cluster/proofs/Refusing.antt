@@ -1,6 +1,6 @@
 -- One step or one refusal.
 use Rattle.std.proofs.Common.{◌≡◌, ℕ, ◌<◌, ◌≤◌, Bool, true, false, cond, ◌&&◌, ◌||◌, ltb, ◌⊎◌, List, [], ◌∷◌, length, get_or, set, Some, None, Ok, Err, Option, Result, sym, refl, ap, ◌∙◌, subst, inl, inr, ⊎_elim, arith, lit<}
-use Rattle.std.specs.List.{AllByRecursion as All}
+use Rattle.std.specs.List.{AllByRecursion}
 use Rattle.std.proofs.lemmas.List.{get_or-set_same, set-get_or, set_past, get_or_past}
 use Rattle.std.proofs.lemmas.Bool.{cond-true, cond-false, cases_lt}
 use Rattle.protocol.specs.declared.change.Change.{Change}
@@ -54,7 +54,7 @@ abbrev EarlyIf : {X : Type 0} → Result X Refusal → Type 0
 EarlyIf (Ok x) = Unit {0}
 EarlyIf (Err why) = refusal_number why < 38
 
-early_checked : {X : Type 0} (tests : List Test) → All Early tests → (next : Result X Refusal) → EarlyIf next → EarlyIf (checked tests next)
+early_checked : {X : Type 0} (tests : List Test) → AllByRecursion Early tests → (next : Result X Refusal) → EarlyIf next → EarlyIf (checked tests next)
 early_checked [] all next h = h
 early_checked {X} (test ∷ tests) all next h = go test.refuses (early_checked tests all.1 next h)
   where

@@ -1,6 +1,6 @@
 -- No run splits the log.
 use Rattle.std.proofs.Common.{◌≡◌, ℕ, true, ◌⊎◌, List, [], ◌∷◌, Some, None, Ok, sym, refl, ap, ◌∙◌, subst, ap₂, inl, inr, ⊎_elim, arith}
-use Rattle.std.specs.List.{AllByRecursion as All}
+use Rattle.std.specs.List.{AllByRecursion}
 use Rattle.protocol.specs.declared.message.Commit.{Commit}
 use Rattle.protocol.specs.declared.message.Message.{Message}
 use Rattle.protocol.specs.declared.refusal.Refusal.{Refusal}
@@ -71,7 +71,7 @@ module _ (setup : Setup ℕ) (lawful : Lawful setup) where
 
   -- the states of a run are reached
   pub unsplit_run : (state : State) → Reached setup state → (calls : List Call) (answers : List Answer) (states : List State)
-      → Run setup state calls answers states → All Unsplit states
+      → Run setup state calls answers states → AllByRecursion Unsplit states
   unsplit_run state r calls answers states ended = tt
   unsplit_run state r calls answers states (and_then {after = after} {calls = rest} {answers = told} {states = ss} s run) =
       (unsplit_reached after (by_call r s), unsplit_run after (by_call r s) rest told ss run)

@@ -1,6 +1,6 @@
 -- What a whole run promises: it is a run of the definitions, no state of it is split, and a shut cluster refuses each call.
 use Rattle.std.proofs.Common.{◌≡◌, ℕ, Bool, true, false, ◌&&◌, eqb, List, [], ◌∷◌, length, Some, Ok, Err, Result, sym, refl, ap, ◌∙◌, subst, arith}
-use Rattle.std.specs.List.{AllByRecursion as All}
+use Rattle.std.specs.List.{AllByRecursion}
 use Rattle.std.proofs.lemmas.Bool.{and_parts, cond-true, cond-false}
 use Rattle.quorum.specs.declared.node_set.NodeSet.{NodeSet}
 use Rattle.quorum.specs.Laws.{Shared, Grows, Void}
@@ -48,7 +48,7 @@ cleared_if_done bytes capacity h = go (legal_capacity capacity && eqb (length by
 
 -- a run of a shut cluster
 record StaysShut (state : State) (answers : List Answer) (last : State) : Type 0 where
-  refused : All (λ (answer : Answer). answer ≡ Err ClusterShut) answers
+  refused : AllByRecursion (λ (answer : Answer). answer ≡ Err ClusterShut) answers
   same : last ≡ state
 
 module _ (setup : Setup ℕ) where

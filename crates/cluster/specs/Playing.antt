@@ -1,6 +1,6 @@
 -- What a run of the code promises: a list of turns, each a call and the place for its answer.
 use Rattle.std.specs.Prelude.{◌≡◌, ℕ, Bool, List, [], ◌∷◌, map, Some, Ok, Err, Result}
-use Rattle.std.specs.List.{AllByRecursion as All}
+use Rattle.std.specs.List.{AllByRecursion}
 use Rattle.quorum.specs.declared.node_set.NodeSet.{NodeSet}
 use Rattle.protocol.specs.declared.refusal.Refusal.{Refusal}
 use Rattle.protocol.specs.declared.refusal.Refusal.TheVariants.{IllFormedLog, ClusterShut}
@@ -51,10 +51,10 @@ module _ {B R : Type 0} (quorum : R → NodeSet → NodeSet → Bool) (meaning :
     pub run : Run (setup_of (quorum rule) configuration value) (opened (setup_of (quorum rule) configuration value) (meaning bank) (cleared capacity))
         (calls_in turns) (answers_in turns') states
     -- after each call: one commit per version, and later commits descend from earlier ones
-    pub unsplit : All Unsplit states
+    pub unsplit : AllByRecursion Unsplit states
     -- the last of those states is the one that is left
     pub last : last_of (opened (setup_of (quorum rule) configuration value) (meaning bank) (cleared capacity)) states
         ≡ with_log meaning cluster log'
     -- if the opening is refused, the cluster names that refusal, and every call is refused
     pub shut : (why : Refusal) → opening (setup_of (quorum rule) configuration value) (meaning bank) ≡ Err why
-        → (cluster.shut ≡ Some why) × All (λ (answer : Answer). answer ≡ Err ClusterShut) (answers_in turns')
+        → (cluster.shut ≡ Some why) × AllByRecursion (λ (answer : Answer). answer ≡ Err ClusterShut) (answers_in turns')

@@ -1,6 +1,6 @@
 -- Runs: calls one after the other, the states that they reach, and that none of them splits the history.
 use Rattle.std.specs.Prelude.{◌≡◌, ℕ, true, List, [], ◌∷◌, length, None}
-use Rattle.std.specs.List.{AllByRecursion as All}
+use Rattle.std.specs.List.{AllByRecursion}
 use Rattle.protocol.specs.declared.message.Message.{Message}
 use Rattle.protocol.specs.Decisions.{Setup}
 use Rattle.protocol.specs.Calls as messages
@@ -50,7 +50,7 @@ pub record NoRunSplitsTheLog : Type 0 where
   pub reached : (setup : Setup ℕ) → Lawful setup → (state : State) → Reached setup state → Unsplit state
   pub run : (setup : Setup ℕ) → Lawful setup → (stores : List Meaning) (capacity : ℕ) → legal_capacity capacity ≡ true
       → (calls : List Call) (answers : List Answer) (states : List State)
-      → Run setup (opened setup stores (cleared capacity)) calls answers states → All Unsplit states
+      → Run setup (opened setup stores (cleared capacity)) calls answers states → AllByRecursion Unsplit states
 
 -- Bytes are messages: an open cluster that calls reach denotes a world that calls on messages reach, and a step over bytes,
 -- its answer and all that it leaves, is that step on messages.

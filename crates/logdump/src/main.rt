@@ -6,14 +6,17 @@ mod report;
 use anyhow::anyhow;
 use quorum::MAX_NODES;
 use report::print_log;
+use std::process::ExitCode;
 use std::{env, fs};
 
-fn main(rt: HostRuntime) -> anyhow::Result<()> {
-    let done = run(&rt);
-    if let Err(error) = &done {
-        eprintln!(rt; "logdump: {error}")?;
+fn main(rt: HostRuntime) -> ExitCode {
+    match run(&rt) {
+        Ok(()) => ExitCode::SUCCESS,
+        Err(error) => {
+            let _ = eprintln!(rt; "logdump: {error}");
+            ExitCode::FAILURE
+        }
     }
-    done
 }
 
 fn run(rt: &HostRuntime) -> anyhow::Result<()> {

@@ -1,6 +1,6 @@
 -- A log that is the encoding of a list of messages: what it reads as, and one message more.
 use Rattle.std.proofs.Common.{◌≡◌, ℕ, zero, suc, ◌<◌, ◌≤◌, Bool, true, false, cond, eqb, ltb, List, [], ◌∷◌, ◌++◌, map, length, get_or, is_some, Some, None, Ok, Err, Option, Result, sym, refl, ap, ◌∙◌, ap₂, ⊎_elim, arith}
-use Rattle.std.specs.List.{slice_get, AllByRecursion as All}
+use Rattle.std.specs.List.{slice_get, AllByRecursion}
 use Rattle.std.specs.Option.{option_map}
 use Rattle.std.proofs.lemmas.List.FromFn.{length-map-range_with_len, get_or-map-range_with_len}
 use Rattle.std.proofs.lemmas.Slice.Eq.{bytes_eq-Decides}
@@ -91,7 +91,7 @@ module _ (same : Message ℕ → Message ℕ → Bool) (equal : (a b : Message �
           absurd (false≢true (sym p ∙ ap (λ (y : Message ℕ). same_stored (stored_as m) (stored_as y)) (sym e) ∙ same_itself (stored_as m)))
 
   pub found_alike : {X : Type 0} (test : X → Bool) (entry : Message ℕ → X) (m : Message ℕ) → ((x : Message ℕ) → test (entry x) ≡ same m x)
-      → Fits m → (messages : List (Message ℕ)) → All Fits messages
+      → Fits m → (messages : List (Message ℕ)) → AllByRecursion Fits messages
       → position (same_stored (stored_as m)) (map stored_as messages) ≡ position test (map entry messages)
   unfolding position
   found_alike test entry m is fm [] all = refl
@@ -126,7 +126,7 @@ read_stored n m f h =
     ap (λ (r : Result (Message ℕ) Fault). elim r as (λ _. Result (Message ℕ) Refusal) [ Ok x ↦ Ok x | Err fault ↦ Err (refusal_of fault) ])
     (reads_back m (body_of m) refl f n h)
 
-pub all_read : (n : ℕ) (messages : List (Message ℕ)) → All Fits messages → All (λ m. legal_message n m ≡ true) messages
+pub all_read : (n : ℕ) (messages : List (Message ℕ)) → AllByRecursion Fits messages → AllByRecursion (λ m. legal_message n m ≡ true) messages
     → map (read_as n) (map stored_as messages) ≡ map Ok messages
 all_read n [] f h = refl
 all_read n (m ∷ messages) f h = ap₂ ◌∷◌ (read_stored n m f.0 h.0) (all_read n messages f.1 h.1)

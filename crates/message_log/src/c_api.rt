@@ -1,4 +1,4 @@
-//! What the radio firmware, which is in C, calls. A slice is a pointer and then a length.
+//! What the radio firmware, which is in C, calls by the exports of `message_log_c`.
 ghost use Rattle.std.specs.Prelude.{◌≡◌};
 ghost use Rattle.message_log.specs.Log.{clear_to, count_in};
 ghost use Rattle.message_log.specs.Firmware.{clear_code, count_code};
@@ -12,8 +12,7 @@ use protocol::Refusal;
 const NO_LOG: u16 = 65535;
 
 /// Clears a log: 0, or the number of the refusal, with nothing touched.
-#[unsafe(no_mangle)]
-pub extern "C" fn kilqaros_log_clear(bytes: &mut [u8], capacity: u16) -> u8
+pub fn kilqaros_log_clear(bytes: &mut [u8], capacity: u16) -> u8
     ensures answer { result ≡ clear_code (clear_to bytes.old capacity).answer }
     ensures bytes { bytes.new ≡ (clear_to bytes.old capacity).bytes }
 {
@@ -24,8 +23,7 @@ pub extern "C" fn kilqaros_log_clear(bytes: &mut [u8], capacity: u16) -> u8
 }
 
 /// Counts the entries of a log; 65,535 where there is no log.
-#[unsafe(no_mangle)]
-pub extern "C" fn kilqaros_log_count(bytes: &[u8]) -> u16
+pub fn kilqaros_log_count(bytes: &[u8]) -> u16
     ensures { result ≡ count_code (count_in bytes.now) }
 {
     match count(bytes) {

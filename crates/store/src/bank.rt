@@ -1,6 +1,6 @@
 //! What every bank promises.
 ghost use Rattle.std.specs.Prelude.{◌≡◌, min, List, length};
-ghost use Rattle.std.specs.List.{AllByRecursion as All};
+ghost use Rattle.std.specs.List.{AllByRecursion};
 ghost use Rattle.store.specs.Banks.{most_counted, asked, all_sound, BankWritten};
 ghost use Rattle.store.specs.Stores.{Meaning, Lawful};
 
@@ -13,7 +13,7 @@ pub trait Bank {
     ghost meaning: { Self → List Meaning };
 
     /// What holds of every store.
-    ghost lawful: { (s : Self) → All Lawful (meaning s) };
+    ghost lawful: { (s : Self) → AllByRecursion Lawful (meaning s) };
 
     /// How many stores there are, or `u32::MAX` for more.
     fn count(&self) -> u32
