@@ -7,6 +7,9 @@ pub mod Rules
 pub mod Laws
 -- a worked case of the weighted rule
 pub mod WorkedCases
-pub mod Measure
+-- The rest is proof, which the rules' laws cite, and nothing to believe: which nodes the sets have, read off their bits, ..
 pub mod MembersLemmas
+-- .. facts on the weight of a set, ..
 pub mod WeightsLemmas
+-- .. and the laws, for every rule that compares weights
+pub mod Measure

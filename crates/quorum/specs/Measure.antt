@@ -1,8 +1,8 @@
 -- The laws of a voting rule, for every rule that compares weights.
-use Rattle.std.specs.Prelude.{◌≡◌, ℕ, ◌<◌, true}
+use Rattle.std.specs.Prelude.{◌≡◌, ℕ, ◌<◌, true, List}
 use Rattle.std.proofs.Common.{⊎_elim, arith}
 use Rattle.quorum.specs.Sets.{member, nobody, common}
-use Rattle.quorum.specs.Rules.{outweighs}
+use Rattle.quorum.specs.Rules.{outweighs, one_each, by_table}
 use Rattle.quorum.specs.Laws.{Shared, Grows, Whole, Void}
 use Rattle.quorum.specs.MembersLemmas.{member-common}
 use Rattle.quorum.specs.WeightsLemmas.{more_members_weigh_more, nobody_weighs_nothing, member_weighs, shared_or_apart}
@@ -32,3 +32,10 @@ void weight votes =
     let le = more_members_weigh_more 16 weight (common votes nobody) nobody less in
     let none = nobody_weighs_nothing 16 weight in
     grind arith
+
+-- no node weighs nothing
+pub one_each_positive : (n : ℕ) → 0 < one_each n
+one_each_positive n = omega arith
+
+pub by_table_positive : (weights : List ℕ) (n : ℕ) → 0 < by_table weights n
+by_table_positive weights n = omega arith

@@ -2,7 +2,6 @@
 ghost use Rattle.std.specs.Prelude.{◌≡◌, ◌≤◌};
 ghost use Rattle.quorum.specs.Rules.{majority, weight_of, one_each};
 ghost use Rattle.quorum.specs.Measure;
-ghost use Rattle.std.proofs.Common.{arith};
 
 use crate::node_set::NodeSet;
 use crate::rule::VotingRule;
@@ -18,7 +17,7 @@ impl VotingRule for Majority {
 
     ghost grows = { λ rule. Measure.grows one_each };
 
-    ghost whole = { λ rule. Measure.whole one_each (λ n. omega arith) };
+    ghost whole = { λ rule. Measure.whole one_each Measure.one_each_positive };
 
     ghost void = { λ rule. Measure.void one_each };
 

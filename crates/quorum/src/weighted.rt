@@ -2,7 +2,6 @@
 ghost use Rattle.std.specs.Prelude.{◌≡◌, ◌≤◌};
 ghost use Rattle.quorum.specs.Rules.{weighted, weight_of, by_table, taken_as};
 ghost use Rattle.quorum.specs.Measure;
-ghost use Rattle.std.proofs.Common.{arith};
 
 use crate::node_set::{MAX_NODES, NodeSet};
 use crate::rule::VotingRule;
@@ -50,7 +49,7 @@ impl VotingRule for Weighted {
 
     ghost grows = { λ rule. Measure.grows (by_table rule.weights) };
 
-    ghost whole = { λ rule. Measure.whole (by_table rule.weights) (λ n. omega arith) };
+    ghost whole = { λ rule. Measure.whole (by_table rule.weights) (Measure.by_table_positive rule.weights) };
 
     ghost void = { λ rule. Measure.void (by_table rule.weights) };
 
