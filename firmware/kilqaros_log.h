@@ -1,5 +1,5 @@
 /* The message log, as the radio firmware sees it. Both functions are proved in
- * crates/message_log/src/c_api.rt; link libmessage_log.a and the toolchain's C library.
+ * crates/message_log_c/src/lib.rt; link libmessage_log.a, as firmware/run does.
  *
  * `bytes` points at `length` bytes that nobody else touches during the call. It is not null, even
  * where the length is 0.
