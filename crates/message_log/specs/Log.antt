@@ -91,6 +91,10 @@ abbrev pub append_to : List ℕ → Stored → Outcome ℕ
 append_to bytes x =
     cond (well_formed bytes) (append_entry bytes x) (record { answer = Err IllFormedLog; bytes = bytes })
 
+-- Adding a message to any bytes, as a word that callers need not open.
+unfoldable pub appended : List ℕ → Message ℕ → Outcome ℕ
+appended bytes m = append_to bytes (stored_as m)
+
 -- a log with room for c entries, and none
 abbrev pub cleared : ℕ → List ℕ
 cleared c = in_two c ++ replicate (2 + 27 * c) 0

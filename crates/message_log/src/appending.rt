@@ -5,7 +5,7 @@ ghost use Rattle.message_log.specs.Added.{Holds};
 ghost use Rattle.message_log.specs.Rules.{Fits};
 ghost use Rattle.message_log.specs.Layout.{in_two, put, well_formed, capacity_of, count_of, body_length};
 ghost use Rattle.protocol.specs.Positions.{position};
-ghost use Rattle.message_log.specs.Log.{Stored, stored_at, entries, same_stored, added, append_entry, append_to, stored_as};
+ghost use Rattle.message_log.specs.Log.{Stored, stored_at, entries, same_stored, added, append_entry, append_to, appended, stored_as};
 
 use crate::encoding::encode;
 use crate::fault::Fault;
@@ -34,7 +34,7 @@ pub fn append(bytes: &mut [u8], message: &Message) -> Result<u16, Fault>
 /// The entry at which a log has a message, or would have it if it were added; or the fault of
 /// bytes that are no log, or of a full log. Nothing is written.
 pub fn place(bytes: &[u8], message: &Message) -> Result<u16, Fault>
-    ensures answer { result ≡ (append_to bytes.now (stored_as message.now)).answer }
+    ensures answer { result ≡ (appended bytes.now message.now).answer }
     ensures fits { Fits message.now }
 {
     let body = encode(message);

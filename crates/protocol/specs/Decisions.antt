@@ -57,6 +57,11 @@ pub record Test : Type 0 where
   pub refuses : Bool
   pub with : Refusal
 
+-- the first test that holds refuses; if none does, what comes next decides
+abbrev pub checked : {X : Type 0} → List Test → Result X Refusal → Result X Refusal
+checked [] next = next
+checked (test ∷ tests) next = cond test.refuses (Err test.with) (checked tests next)
+
 -- the first test that holds refuses; if none does, the effect follows
 abbrev pub decided : {X : Type 0} → List Test → X → Result X Refusal
 decided [] effect = Ok effect

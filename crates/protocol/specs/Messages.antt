@@ -1,5 +1,5 @@
 -- Messages: their kinds, and which are legal in a cluster of n nodes.
-use Rattle.std.specs.Prelude.{ℕ, Bool, ◌&&◌, nat_lt}
+use Rattle.std.specs.Prelude.{ℕ, Bool, true, ◌&&◌, ◌==◌, nat_lt}
 use Rattle.quorum.specs.Sets.{legal_configuration}
 use Rattle.protocol.specs.declared.kind.Kind.{Kind}
 use Rattle.protocol.specs.declared.kind.Kind.TheVariants as kind
@@ -15,6 +15,13 @@ kind_of (Commit m) = kind.Commit
 -- the destination of a message that is for every node
 abbrev pub everyone : ℕ
 everyone = 255
+
+-- whether a message is for node n: a publication and a commit are for every node
+abbrev pub is_for : {V : Type 0} → (n : ℕ) → Message V → Bool
+is_for n (Join m) = m.destination == n
+is_for n (Publication m) = true
+is_for n (Response m) = m.destination == n
+is_for n (Commit m) = true
 
 -- the source and a single destination are nodes, and the configurations of a publication are legal
 abbrev pub legal_message : {V : Type 0} → ℕ → Message V → Bool

@@ -3,16 +3,20 @@
 #![tactic(auto)]
 
 mod change;
+mod effect;
 mod kind;
 mod message;
+mod node_state;
 mod record;
 mod refusal;
 mod theorems;
 mod volatile;
 
 pub use change::{Accepted, Change};
+pub use effect::Effect;
 pub use kind::Kind;
 pub use message::{Commit, EVERYONE, Join, Message, Publication, Response, Term, Value, Version};
+pub use node_state::NodeState;
 pub use record::Record;
 pub use refusal::Refusal;
 pub use theorems::{

@@ -1,6 +1,6 @@
 //! The four messages.
 ghost use Rattle.std.specs.Prelude.{◌≡◌};
-ghost use Rattle.protocol.specs.Messages.{kind_of};
+ghost use Rattle.protocol.specs.Messages.{kind_of, is_for};
 
 use crate::kind::Kind;
 use quorum::NodeSet;
@@ -76,6 +76,17 @@ impl<V> Message<V> {
             Message::Publication(_) => Kind::Publication,
             Message::Response(_) => Kind::Response,
             Message::Commit(_) => Kind::Commit,
+        }
+    }
+
+    /// Whether the message is for this node: a publication and a commit are for every node.
+    pub fn is_for(&self, node: u8) -> bool
+        ensures { result ≡ is_for node self.now }
+    {
+        match self {
+            Message::Join(m) => m.destination == node,
+            Message::Response(m) => m.destination == node,
+            Message::Publication(_) | Message::Commit(_) => true,
         }
     }
 }
