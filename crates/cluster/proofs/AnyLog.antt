@@ -1,5 +1,5 @@
 -- A call that is lent no log does the same beside every log.
-use Rattle.std.proofs.Common.{◌≡◌, ℕ, Bool, true, false, cond, List, [], ◌∷◌, Some, None, Ok, Err, Option, Result, sym, refl, ap, ◌∙◌, subst}
+use Rattle.std.proofs.Common.{◌≡◌, ℕ, Bool, true, false, cond, List, [], ◌∷◌, None, Ok, Err, Option, Result, sym, refl, ap, ◌∙◌, subst}
 use Rattle.std.proofs.lemmas.Bool.{cond-true, cond-false}
 use Rattle.protocol.specs.declared.effect.Effect.{Effect}
 use Rattle.protocol.specs.declared.message.Message.{Message}
@@ -8,9 +8,9 @@ use Rattle.protocol.specs.Decisions.{Setup, Test, decided, bootstrap_tests, boot
 use Rattle.store.specs.declared.power.Power.{Power}
 use Rattle.store.specs.Banks.{store_at}
 use Rattle.cluster.specs.declared.call.Call.{Call}
-use Rattle.cluster.specs.declared.call.Call.TheVariants.{Bootstrap, StartJoin, Publish, Deliver, Restart}
+use Rattle.cluster.specs.declared.call.Call.TheVariants.{Bootstrap, Restart}
 use Rattle.cluster.specs.States.{State, node_at}
-use Rattle.cluster.specs.Calls.{Answer, Outcome, node_called, power_of, shut_test, node_test, decision, finished, stores_after, taken, cut, written, carried_out, called, message_in, change_in, Allowed, AllFit, Step}
+use Rattle.cluster.specs.Calls.{Answer, Outcome, node_called, power_of, shut_test, node_test, decision, finished, written, carried_out, message_in, change_in, Allowed, AllFit, Step}
 
 -- the state with another log
 abbrev pub relog : List ℕ → State → State

@@ -1,5 +1,5 @@
 -- What a step of a cluster's call promises besides.
-use Rattle.std.proofs.Common.{◌≡◌, ℕ, Bool, true, eqb, List, Decides, refl}
+use Rattle.std.proofs.Common.{◌≡◌, ℕ, Bool, eqb, List, Decides}
 use Rattle.std.proofs.lemmas.Bool.{eqb-true, eq-eqb}
 use Rattle.quorum.specs.declared.node_set.NodeSet.{NodeSet}
 use Rattle.quorum.specs.Laws.{Shared, Grows, Void}
@@ -10,7 +10,7 @@ use Rattle.store.specs.Stores.{Meaning}
 use Rattle.cluster.specs.declared.call.Call.{Call}
 use Rattle.cluster.specs.declared.cluster.Cluster.{Cluster}
 use Rattle.cluster.specs.Calls.{Answer, Step}
-use Rattle.cluster.specs.Runs.{Reached, by_call}
+use Rattle.cluster.specs.Runs.{by_call}
 use Rattle.cluster.specs.Clusters.{with_log, Called}
 use Rattle.cluster.proofs.Modelling.{modelled, reached_sensible}
 use Rattle.cluster.proofs.Refusing.{one_step_or_one_refusal}

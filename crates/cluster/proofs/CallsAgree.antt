@@ -1,12 +1,11 @@
 -- A call over bytes is that call on the nodes and messages that the state denotes.
-use Rattle.std.proofs.Common.{◌≡◌, ℕ, zero, suc, ◌<◌, ◌≤◌, Bool, true, false, cond, not, ◌&&◌, ◌||◌, ltb, leb, List, [], ◌∷◌, ◌++◌, map, length, get_or, set, is_some, Some, None, Ok, Err, Option, Result, sym, refl, ap, ◌∙◌, subst, ap₂, ⊎_elim, arith}
+use Rattle.std.proofs.Common.{◌≡◌, ℕ, zero, suc, ◌<◌, ◌≤◌, Bool, true, false, cond, not, ◌&&◌, ◌||◌, ltb, leb, List, [], ◌∷◌, ◌++◌, map, length, get_or, set, is_some, Some, None, Ok, Err, Option, Result, sym, refl, ap, ◌∙◌, ap₂, ⊎_elim, arith}
 use Rattle.std.specs.List.{slice_get}
 use Rattle.std.specs.Option.{option_map}
 use Rattle.std.proofs.lemmas.List.FromFn.{length-map-range_with_len, get_or-map-range_with_len}
 use Rattle.std.proofs.lemmas.List.{length-map, length-set, map-append, get_or-set_same}
 use Rattle.std.proofs.lemmas.Option.{slice_get-get_or, slice_get_past}
 use Rattle.std.proofs.lemmas.Bool.{cond-true, cond-false, ltb-true, lt-ltb, le-ltb, lt-leb, le-leb, cases_lt}
-use Rattle.quorum.specs.declared.node_set.NodeSet.{NodeSet}
 use Rattle.quorum.specs.Sets.{legal_configuration}
 use Rattle.protocol.specs.declared.change.Change.{Change}
 use Rattle.protocol.specs.declared.effect.Effect.{Effect}
@@ -48,7 +47,7 @@ use Rattle.store.specs.Banks.{store_at}
 use Rattle.cluster.specs.declared.call.Call.{Call}
 use Rattle.cluster.specs.declared.call.Call.TheVariants.{Bootstrap, StartJoin, Publish, Deliver, Restart}
 use Rattle.cluster.specs.States.{State, most_nodes, node_at}
-use Rattle.cluster.specs.Calls.{Outcome, count, node_called, power_of, shut_test, node_test, log_test, decision, place_for, log_with, finished, stores_after, taken, cut, if_placed, carried_out, called, message_in}
+use Rattle.cluster.specs.Calls.{Outcome, count, node_called, power_of, shut_test, node_test, decision, place_for, log_with, finished, stores_after, taken, cut, if_placed, carried_out, called, message_in}
 use Rattle.cluster.specs.Worlds.{nodes_of, entries_read, world_of, call_of, fate_of}
 use Rattle.cluster.specs.Models.{IfLent}
 use Rattle.cluster.proofs.NodesDenoted.{length_nodes, nth_node, set_node, set_volatile}

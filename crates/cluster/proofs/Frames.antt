@@ -1,5 +1,5 @@
 -- What a call may do to the log, and that it keeps all the rest in its form.
-use Rattle.std.proofs.Common.{◌≡◌, ℕ, Bool, true, false, cond, List, [], ◌∷◌, length, is_some, Some, None, Ok, Err, Option, Result, sym, refl, ap, ◌∙◌, subst}
+use Rattle.std.proofs.Common.{◌≡◌, ℕ, Bool, true, false, List, length, is_some, Some, None, Ok, Err, Option, Result, sym, refl, ap, subst}
 use Rattle.std.proofs.lemmas.List.{length-set}
 use Rattle.std.proofs.lemmas.Bool.{cond-true, cond-false}
 use Rattle.protocol.specs.declared.change.Change.{Change}
@@ -16,7 +16,7 @@ use Rattle.store.specs.Banks.{store_at}
 use Rattle.cluster.specs.declared.call.Call.{Call}
 use Rattle.cluster.specs.declared.call.Call.TheVariants.{Bootstrap, StartJoin, Publish, Deliver, Restart}
 use Rattle.cluster.specs.States.{State}
-use Rattle.cluster.specs.Calls.{Outcome, node_called, power_of, decision, place_for, log_with, finished, stores_after, taken, cut, written, if_placed, carried_out, called, message_in, refused}
+use Rattle.cluster.specs.Calls.{Outcome, node_called, power_of, decision, place_for, log_with, finished, stores_after, taken, written, if_placed, carried_out, called, message_in, refused}
 
 module _ (setup : Setup ℕ) (state : State) where
   -- the log is as it was, or the message that is due was added to it

@@ -1,21 +1,20 @@
 -- An opening over fresh stores is an opening on messages.
-use Rattle.std.proofs.Common.{◌≡◌, ℕ, ◌≤◌, Bool, true, false, eqb, ltb, List, [], ◌∷◌, map, length, replicate, Some, None, Ok, Err, Option, Result, sym, refl, ap, ◌∙◌, ap₂, arith}
+use Rattle.std.proofs.Common.{◌≡◌, ℕ, ◌≤◌, true, eqb, List, [], ◌∷◌, map, length, Ok, refl, ap, ◌∙◌, ap₂, arith}
 use Rattle.std.proofs.lemmas.List.{length-map}
 use Rattle.std.proofs.lemmas.Bool.{and_parts, eqb-true, ltb-false, not-false}
 use Rattle.quorum.specs.declared.node_set.NodeSet.{NodeSet}
 use Rattle.quorum.specs.Sets.{legal_configuration}
 use Rattle.protocol.specs.declared.node_state.NodeState.{NodeState}
 use Rattle.protocol.specs.declared.record.Record.{Record}
-use Rattle.protocol.specs.declared.refusal.Refusal.{Refusal}
 use Rattle.protocol.specs.Decisions.{Setup, is_empty}
 use Rattle.protocol.specs.Calls.{fresh_node}
 use Rattle.protocol.specs.Runs.{Opened}
-use Rattle.safety.proofs.Deciding.{Passed, taken}
+use Rattle.safety.proofs.Deciding.{taken}
 use Rattle.message_log.specs.Layout.{legal_capacity}
 use Rattle.message_log.specs.Log.{read_as, cleared}
 use Rattle.message_log.proofs.Adding.{empty_log}
 use Rattle.store.specs.Stores.{Meaning}
-use Rattle.cluster.specs.States.{State, blank, most_nodes, fresh, all_fresh, opening_tests, opening, refusal_in, opened}
+use Rattle.cluster.specs.States.{blank, most_nodes, fresh, all_fresh, opening_tests, opening, opened}
 use Rattle.cluster.specs.Worlds.{nodes_of, world_of}
 use Rattle.cluster.proofs.NodesDenoted.{all_blank}
 

@@ -1,5 +1,5 @@
 -- States that calls reach denote worlds that calls on messages reach, and their bytes are messages.
-use Rattle.std.proofs.Common.{◌≡◌, ℕ, ◌<◌, ◌≤◌, Bool, true, false, ltb, ◌⊎◌, List, [], ◌∷◌, ◌++◌, map, length, replicate, is_some, Some, None, Ok, Err, Option, Result, sym, refl, ap, ◌∙◌, subst, inl, inr, ⊎_elim, arith}
+use Rattle.std.proofs.Common.{◌≡◌, ℕ, ◌<◌, ◌≤◌, Bool, true, false, ltb, ◌⊎◌, List, [], ◌∷◌, ◌++◌, map, length, Some, None, Ok, Err, Option, Result, sym, refl, ap, ◌∙◌, subst, inl, inr, ⊎_elim, arith}
 use Rattle.std.specs.List.{slice_get, AllByRecursion}
 use Rattle.std.proofs.ByRecursion.{All-push}
 use Rattle.std.proofs.lemmas.List.{map_push, map-append}
@@ -7,7 +7,6 @@ use Rattle.std.proofs.lemmas.Bool.{cond-true, cond-false, ltb-true, cases_lt}
 use Rattle.protocol.specs.declared.effect.Effect.{Effect}
 use Rattle.protocol.specs.declared.message.Message.{Message}
 use Rattle.protocol.specs.declared.refusal.Refusal.{Refusal}
-use Rattle.protocol.specs.declared.refusal.Refusal.TheVariants.{ClusterShut, UnknownNode}
 use Rattle.protocol.specs.Decisions.{Setup}
 use Rattle.protocol.specs.Positions.{position}
 use Rattle.protocol.specs.Calls as messages
@@ -16,25 +15,24 @@ use Rattle.protocol.specs.Messages.{legal_message}
 use Rattle.protocol.specs.Runs as messages-run
 use Rattle.protocol.specs.Runs.{Lawful}
 use Rattle.safety.proofs.Sending.{same_is_equal, same_itself}
-use Rattle.safety.proofs.Soundness.{Legal, Sound, reached_sound, sends_legal}
+use Rattle.safety.proofs.Soundness.{Legal, reached_sound, sends_legal}
 use Rattle.message_log.specs.Layout.{legal_capacity, well_formed, capacity_of, count_of}
 use Rattle.message_log.specs.Log.{Stored, entries, same_stored, stored_as, added, appended, add_unless, read_as, cleared}
 use Rattle.message_log.specs.Log as log
 use Rattle.message_log.specs.Rules.{Fits}
 use Rattle.message_log.specs.Encoded.{Encodes}
 use Rattle.message_log.proofs.Encoded.{cleared_encodes, found_alike, one_more, read_stored}
-use Rattle.store.specs.Stores.{Meaning}
 use Rattle.cluster.specs.declared.call.Call.{Call}
 use Rattle.cluster.specs.declared.call.Call.TheVariants.{Bootstrap, StartJoin, Publish, Deliver, Restart}
-use Rattle.cluster.specs.States.{State, blank, most_nodes, node_at, opening, refusal_in, opened}
-use Rattle.cluster.specs.Calls.{Answer, Outcome, node_called, decision, called, refused, message_in, AllFit, Step}
+use Rattle.cluster.specs.States.{State, most_nodes, node_at, opening, refusal_in, opened}
+use Rattle.cluster.specs.Calls.{Answer, Outcome, node_called, decision, called, message_in, AllFit, Step}
 use Rattle.cluster.specs.Worlds.{entries_read, world_of, call_of, fate_of}
-use Rattle.cluster.specs.Runs.{Reached, at_opening, by_call, Unsplit}
+use Rattle.cluster.specs.Runs.{Reached, at_opening, by_call}
 use Rattle.cluster.specs.Models.{IfLent}
 use Rattle.cluster.proofs.NodesDenoted.{nth_node, length_nodes}
 use Rattle.cluster.proofs.CallsAgree.{Agreed, outcome_of, calls_agree, decisions_agree, unknown}
 use Rattle.cluster.proofs.Frames.{LogAfter, as_it_was, with_message, Framed, framed, refused_where_shut}
-use Rattle.cluster.proofs.Openings.{Open, open_if_not_refused, opened_on_messages}
+use Rattle.cluster.proofs.Openings.{open_if_not_refused, opened_on_messages}
 
 -- bytes that are messages, each with numbers that fit, and that read as them
 pub record Written (n : ℕ) (bytes : List ℕ) : Type 0 where

@@ -1,40 +1,23 @@
 -- One step or one refusal.
-use Rattle.std.proofs.Common.{◌≡◌, ℕ, ◌<◌, ◌≤◌, Bool, true, false, cond, ◌&&◌, ◌||◌, ltb, ◌⊎◌, List, [], ◌∷◌, length, get_or, set, Some, None, Ok, Err, Option, Result, sym, refl, ap, ◌∙◌, subst, inl, inr, ⊎_elim, arith, lit<}
+use Rattle.std.proofs.Common.{◌≡◌, ℕ, ◌<◌, ◌≤◌, Bool, true, false, cond, ◌&&◌, ◌||◌, ◌⊎◌, List, [], ◌∷◌, length, set, Some, None, Ok, Err, Option, Result, sym, refl, ap, ◌∙◌, subst, inl, inr, ⊎_elim, arith, lit<}
 use Rattle.std.specs.List.{AllByRecursion}
-use Rattle.std.proofs.lemmas.List.{get_or-set_same, set-get_or, set_past, get_or_past}
+use Rattle.std.proofs.lemmas.List.{get_or-set_same, set_past}
 use Rattle.std.proofs.lemmas.Bool.{cond-true, cond-false, cases_lt}
 use Rattle.protocol.specs.declared.change.Change.{Change}
 use Rattle.protocol.specs.declared.effect.Effect.{Effect}
-use Rattle.protocol.specs.declared.kind.Kind.{Kind}
 use Rattle.protocol.specs.declared.message.Message.{Message}
 use Rattle.protocol.specs.declared.message.Message.TheVariants.{Join, Publication, Response, Commit}
 use Rattle.protocol.specs.declared.node_state.NodeState.{NodeState}
-use Rattle.protocol.specs.declared.record.Record.{Record}
 use Rattle.protocol.specs.declared.refusal.Refusal.{Refusal}
 use Rattle.protocol.specs.declared.refusal.Refusal.TheVariants.{OtherDestination, WriteUnfinished}
 use Rattle.protocol.specs.Changes.{changed}
-use Rattle.protocol.specs.Kinds.{kind_of_number}
 use Rattle.protocol.specs.Messages.{addressed}
 use Rattle.protocol.specs.Refusals.{refusal_number}
-use Rattle.protocol.specs.Decisions.{
-  Setup,
-  Test,
-  checked,
-  decided,
-  deliver_decided,
-  join_tests,
-  publication_tests,
-  response_tests,
-  commit_tests,
-  bootstrap_tests,
-  start_join_tests,
-  publish_tests,
-}
+use Rattle.protocol.specs.Decisions.{Setup, Test, checked, deliver_decided, join_tests, publication_tests, response_tests, commit_tests, bootstrap_tests, start_join_tests, publish_tests}
 use Rattle.message_log.specs.declared.fault.Fault.{Fault}
 use Rattle.message_log.specs.declared.fault.Fault.TheVariants.{IllFormedLog, UnknownKind, InvalidBody, LogFull}
 use Rattle.message_log.specs.Faults.{refusal_of}
-use Rattle.message_log.specs.Layout.{well_formed, count_of}
-use Rattle.message_log.specs.Log.{Stored, stored_at, look_up_in, found_as, message_at}
+use Rattle.message_log.specs.Log.{Stored, look_up_in, found_as, message_at}
 use Rattle.message_log.specs.Rules.{read_message}
 use Rattle.node.specs.Deliveries.{on_entry}
 use Rattle.store.specs.declared.power.Power.{Power}
@@ -43,7 +26,7 @@ use Rattle.store.specs.Banks.{absent, store_at}
 use Rattle.cluster.specs.declared.call.Call.{Call}
 use Rattle.cluster.specs.declared.call.Call.TheVariants.{Bootstrap, StartJoin, Publish, Deliver, Restart}
 use Rattle.cluster.specs.States.{State, node_at}
-use Rattle.cluster.specs.Calls.{Answer, Outcome, node_called, power_of, count, shut_test, node_test, log_test, publish_input_tests, decision, place_for, finished, stores_after, taken, cut, written, if_placed, carried_out, called, Step}
+use Rattle.cluster.specs.Calls.{Answer, Outcome, node_called, power_of, count, shut_test, node_test, log_test, publish_input_tests, decision, place_for, finished, stores_after, taken, cut, written, if_placed, carried_out, Step}
 use Rattle.cluster.specs.Outcomes.{CutShort, OneStepOrOneRefusal}
 
 -- No test refuses as a cut write does: its refusal has a lower number.

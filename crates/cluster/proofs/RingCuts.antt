@@ -1,5 +1,5 @@
 -- A call whose write to a ring is cut at the slot number.
-use Rattle.std.proofs.Common.{◌≡◌, ℕ, ◌<◌, ◌≤◌, Bool, true, false, cond, ◌&&◌, ◌||◌, List, length, Some, None, Ok, Err, Option, Result, sym, refl, ap, ◌∙◌, subst, ⊎_elim, arith}
+use Rattle.std.proofs.Common.{◌≡◌, ℕ, ◌<◌, ◌≤◌, Bool, true, false, cond, ◌&&◌, ◌||◌, List, length, Some, Ok, Err, Option, Result, sym, refl, ap, ◌∙◌, subst, ⊎_elim, arith}
 use Rattle.std.proofs.lemmas.List.{get_or-set_same, get_or_past}
 use Rattle.std.proofs.lemmas.Bool.{cond-false, cases_lt}
 use Rattle.protocol.specs.declared.change.Change.{Change}
@@ -11,11 +11,11 @@ use Rattle.protocol.specs.Decisions.{Setup}
 use Rattle.message_log.specs.declared.fault.Fault.{Fault}
 use Rattle.store.specs.declared.power.Power.{Power}
 use Rattle.store.specs.Banks.{store_at, absent}
-use Rattle.store.specs.Ring.{ring, well_formed}
+use Rattle.store.specs.Ring.{ring}
 use Rattle.store.specs.Stores.{Meaning, finishes, after_write}
 use Rattle.cluster.specs.declared.call.Call.{Call}
 use Rattle.cluster.specs.States.{State}
-use Rattle.cluster.specs.Calls.{Answer, Outcome, Step, Allowed, node_called, power_of, decision, change_in, change_if, place_for, finished, stores_after, taken, cut, if_placed, carried_out, called}
+use Rattle.cluster.specs.Calls.{Answer, Outcome, Step, Allowed, node_called, power_of, decision, change_in, change_if, place_for, finished, stores_after, taken, cut, if_placed, carried_out}
 use Rattle.cluster.specs.WorkedCases.{WritesToRing, WasCut, all_but_one}
 
 pub never : {X : Type 0} → false ≡ true → X

@@ -1,5 +1,5 @@
 -- Turns that are taken one after the other.
-use Rattle.std.proofs.Common.{◌≡◌, ℕ, ◌+◌, ◌<◌, ◌≤◌, List, [], ◌∷◌, ◌++◌, map, length, get_or, take, set, sym, refl, ap, ◌∙◌, subst, ap₂, arith}
+use Rattle.std.proofs.Common.{◌≡◌, ℕ, ◌+◌, ◌<◌, ◌≤◌, List, [], ◌∷◌, ◌++◌, length, get_or, take, set, sym, refl, ap, ◌∙◌, subst}
 use Rattle.protocol.specs.Decisions.{Setup}
 use Rattle.std.proofs.lemmas.List.{map_push, map-set, set-get_or, take_all, take_more_set}
 use Rattle.cluster.specs.declared.call.Call.{Call}

@@ -1,19 +1,15 @@
 -- No run splits the log.
-use Rattle.std.proofs.Common.{◌≡◌, ℕ, true, ◌⊎◌, List, [], ◌∷◌, Some, None, Ok, sym, refl, ap, ◌∙◌, subst, ap₂, inl, inr, ⊎_elim, arith}
+use Rattle.std.proofs.Common.{◌≡◌, ℕ, List, [], ◌∷◌, Some, None, sym, refl, ◌∙◌, subst, ap₂, ⊎_elim, arith}
 use Rattle.std.specs.List.{AllByRecursion}
 use Rattle.protocol.specs.declared.message.Commit.{Commit}
 use Rattle.protocol.specs.declared.message.Message.{Message}
-use Rattle.protocol.specs.declared.refusal.Refusal.{Refusal}
 use Rattle.protocol.specs.Decisions.{Setup}
 use Rattle.protocol.specs.Calls.{entries_of}
 use Rattle.protocol.specs.History.{Committed, OneHistory}
-use Rattle.protocol.specs.Runs as messages-run
 use Rattle.protocol.specs.Runs.{Lawful}
 use Rattle.safety.proofs.Safety.{one_history_is_kept}
 use Rattle.safety.proofs.Unsplit.{unsplit}
-use Rattle.message_log.specs.Layout.{legal_capacity}
 use Rattle.message_log.specs.Log.{cleared}
-use Rattle.store.specs.Stores.{Meaning}
 use Rattle.cluster.specs.declared.call.Call.{Call}
 use Rattle.cluster.specs.States.{State, opened}
 use Rattle.cluster.specs.Calls.{Answer}

@@ -1,5 +1,5 @@
 -- What a whole run promises: it is a run of the definitions, no state of it is split, and a shut cluster refuses each call.
-use Rattle.std.proofs.Common.{◌≡◌, ℕ, Bool, true, false, ◌&&◌, eqb, List, [], ◌∷◌, length, Some, Ok, Err, Result, sym, refl, ap, ◌∙◌, subst, arith}
+use Rattle.std.proofs.Common.{◌≡◌, ℕ, Bool, true, false, ◌&&◌, eqb, List, length, Some, Ok, Err, Result, sym, refl, ap, ◌∙◌, subst, arith}
 use Rattle.std.specs.List.{AllByRecursion}
 use Rattle.std.proofs.lemmas.Bool.{and_parts, cond-true, cond-false}
 use Rattle.quorum.specs.declared.node_set.NodeSet.{NodeSet}
@@ -17,7 +17,7 @@ use Rattle.store.specs.Stores.{Meaning}
 use Rattle.cluster.specs.declared.call.Call.{Call}
 use Rattle.cluster.specs.declared.cluster.Cluster.{Cluster}
 use Rattle.cluster.specs.declared.turn.Turn.{Turn}
-use Rattle.cluster.specs.States.{State, opening, refusal_in, opened}
+use Rattle.cluster.specs.States.{State, refusal_in, opened}
 use Rattle.cluster.specs.Calls.{Answer, Outcome}
 use Rattle.cluster.specs.Runs.{Run, ended, and_then, at_opening, last_of}
 use Rattle.cluster.specs.Clusters.{with_log}

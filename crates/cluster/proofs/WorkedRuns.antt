@@ -18,7 +18,7 @@ use Rattle.store.specs.Banks.{store_at}
 use Rattle.cluster.specs.declared.call.Call.{Call}
 use Rattle.cluster.specs.declared.call.Call.TheVariants.{Bootstrap, Publish}
 use Rattle.cluster.specs.States.{State}
-use Rattle.cluster.specs.Calls.{Answer, Outcome, Step, Allowed, AllFit, node_called, power_of, decision, change_in, change_if, message_in, place_for, finished, stores_after, taken, cut, if_placed, carried_out, called}
+use Rattle.cluster.specs.Calls.{Answer, Outcome, Allowed, AllFit, node_called, power_of, decision, change_in, change_if, message_in, place_for, finished, stores_after, taken, cut, if_placed, carried_out, called}
 use Rattle.cluster.specs.Runs.{Run, ended, and_then, last_of}
 use Rattle.cluster.specs.WorkedCases.{the_setup, third, the_opening, the_calls, the_answers, the_body, Answers, with_ring, all_but_one, WorkedCases}
 use Rattle.cluster.proofs.RingCuts.{never, even, odd}

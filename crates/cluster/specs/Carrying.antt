@@ -1,6 +1,6 @@
 -- An effect that is carried out, as the functions of the code do it one after the other. The calls are put together from
 -- these.
-use Rattle.std.specs.Prelude.{◌≡◌, ℕ, Bool, cond, List, Option}
+use Rattle.std.specs.Prelude.{◌≡◌, ℕ, Bool, cond, Option}
 use Rattle.protocol.specs.declared.change.Change.{Change}
 use Rattle.protocol.specs.declared.effect.Effect.{Effect}
 use Rattle.protocol.specs.declared.volatile.Volatile.{Volatile}

@@ -1,5 +1,5 @@
 -- What a run of the code promises: a list of turns, each a call and the place for its answer.
-use Rattle.std.specs.Prelude.{◌≡◌, ℕ, Bool, List, [], ◌∷◌, map, Some, Ok, Err, Result}
+use Rattle.std.specs.Prelude.{◌≡◌, ℕ, Bool, List, map, Some, Ok, Err, Result}
 use Rattle.std.specs.List.{AllByRecursion}
 use Rattle.quorum.specs.declared.node_set.NodeSet.{NodeSet}
 use Rattle.protocol.specs.declared.refusal.Refusal.{Refusal}

@@ -1,5 +1,5 @@
 -- A cluster with the log that its calls are lent, and how a cluster is opened.
-use Rattle.std.specs.Prelude.{ℕ, Bool, true, false, cond, not, ◌&&◌, List, [], ◌∷◌, length, replicate, Some, None, Ok, Err, Option, Result, ◌==◌, nat_lt, slice_index_or}
+use Rattle.std.specs.Prelude.{ℕ, Bool, true, false, not, ◌&&◌, List, [], ◌∷◌, length, replicate, Some, None, Ok, Err, Option, Result, ◌==◌, nat_lt, slice_index_or}
 use Rattle.quorum.specs.Sets.{nobody, legal_configuration}
 use Rattle.protocol.specs.declared.node_state.NodeState.{NodeState}
 use Rattle.protocol.specs.declared.record.Record.{Record}

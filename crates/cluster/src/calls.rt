@@ -20,7 +20,7 @@ impl<B: Bank, R: VotingRule> Cluster<B, R> {
     /// The node accepts the initial value and the initial configuration, as accepted and as
     /// committed. It is lent no log: the contract holds beside every one.
     pub fn bootstrap(&mut self, node: u8, power: Power) -> Answer
-        ensures { (log : List ℕ) → Called quorum meaning self.old log (CallBootstrap node power) result self.new log }
+        ensures { (log : List ℕ) → Called R.quorum B.meaning self.old log (CallBootstrap node power) result self.new log }
     {
         self.bootstrap_step(node, power)
     }
@@ -34,7 +34,7 @@ impl<B: Bank, R: VotingRule> Cluster<B, R> {
         power: Power,
         log: &mut [u8],
     ) -> Answer
-        ensures { Called quorum meaning self.old log.old (CallStartJoin node leader term power) result self.new log.new }
+        ensures { Called R.quorum B.meaning self.old log.old (CallStartJoin node leader term power) result self.new log.new }
     {
         self.start_join_step(node, leader, term, power, log)
     }
@@ -49,14 +49,14 @@ impl<B: Bank, R: VotingRule> Cluster<B, R> {
         configuration: NodeSet,
         log: &mut [u8],
     ) -> Answer
-        ensures { Called quorum meaning self.old log.old (CallPublish node term version value configuration) result self.new log.new }
+        ensures { Called R.quorum B.meaning self.old log.old (CallPublish node term version value configuration) result self.new log.new }
     {
         self.publish_step(node, term, version, value, configuration, log)
     }
 
     /// The node is handed an entry of the log.
     pub fn deliver(&mut self, entry: u16, node: u8, power: Power, log: &mut [u8]) -> Answer
-        ensures { Called quorum meaning self.old log.old (CallDeliver entry node power) result self.new log.new }
+        ensures { Called R.quorum B.meaning self.old log.old (CallDeliver entry node power) result self.new log.new }
     {
         self.deliver_step(entry, node, power, log)
     }
@@ -64,7 +64,7 @@ impl<B: Bank, R: VotingRule> Cluster<B, R> {
     /// The node loses what it does not keep in its store. It is lent no log: the contract holds
     /// beside every one.
     pub fn restart(&mut self, node: u8) -> Answer
-        ensures { (log : List ℕ) → Called quorum meaning self.old log (CallRestart node) result self.new log }
+        ensures { (log : List ℕ) → Called R.quorum B.meaning self.old log (CallRestart node) result self.new log }
     {
         self.restart_step(node)
     }

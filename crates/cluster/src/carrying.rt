@@ -20,9 +20,9 @@ impl<B: Bank, R: VotingRule> Cluster<B, R> {
     // Writes a change to the store of a node, which then has these volatile values, and answers
     // whether the write finished. Where it is cut, the node is restarted from what its store kept.
     fn write(&mut self, node: u8, change: Change, volatile: Volatile, power: Power) -> bool
-        requires { node < count (meant quorum self.old.setup) (alone meaning self.old) }
+        requires { node < count (meant R.quorum self.old.setup) (alone B.meaning self.old) }
         ensures setup { self.new.setup ≡ self.old.setup }
-        ensures settled { Settled (meant quorum self.old.setup) (alone meaning self.old) node (Some change) volatile power result (alone meaning self.new) }
+        ensures settled { Settled (meant R.quorum self.old.setup) (alone B.meaning self.old) node (Some change) volatile power result (alone B.meaning self.new) }
     {
         let at = u16::from(node);
         if let Some(true) = self.bank.write(at, change, power) {
@@ -43,9 +43,9 @@ impl<B: Bank, R: VotingRule> Cluster<B, R> {
         volatile: Volatile,
         power: Power,
     ) -> bool
-        requires { node < count (meant quorum self.old.setup) (alone meaning self.old) }
+        requires { node < count (meant R.quorum self.old.setup) (alone B.meaning self.old) }
         ensures setup { self.new.setup ≡ self.old.setup }
-        ensures settled { Settled (meant quorum self.old.setup) (alone meaning self.old) node change volatile power result (alone meaning self.new) }
+        ensures settled { Settled (meant R.quorum self.old.setup) (alone B.meaning self.old) node change volatile power result (alone B.meaning self.new) }
     {
         match change {
             Some(change) => self.write(node, change, volatile, power),
@@ -58,10 +58,10 @@ impl<B: Bank, R: VotingRule> Cluster<B, R> {
 
     // Carries out an effect that sends nothing.
     pub(crate) fn settle_only(&mut self, node: u8, effect: &Effect, power: Power) -> Answer
-        requires known { node < count (meant quorum self.old.setup) (alone meaning self.old) }
+        requires known { node < count (meant R.quorum self.old.setup) (alone B.meaning self.old) }
         requires silent { effect.now.message ≡ None }
         ensures setup { self.new.setup ≡ self.old.setup }
-        ensures carried { Carried (meant quorum self.old.setup) (alone meaning self.old) node effect.now power result (alone meaning self.new) }
+        ensures carried { Carried (meant R.quorum self.old.setup) (alone B.meaning self.old) node effect.now power result (alone B.meaning self.new) }
     {
         if self.settle(node, effect.change, effect.volatile, power) {
             Ok(None)
@@ -79,9 +79,9 @@ impl<B: Bank, R: VotingRule> Cluster<B, R> {
         power: Power,
         log: &mut [u8],
     ) -> Answer
-        requires { node < count (meant quorum self.old.setup) (alone meaning self.old) }
+        requires { node < count (meant R.quorum self.old.setup) (alone B.meaning self.old) }
         ensures setup { self.new.setup ≡ self.old.setup }
-        ensures carried { Carried (meant quorum self.old.setup) (with_log meaning self.old log.old) node effect.now power result (with_log meaning self.new log.new) }
+        ensures carried { Carried (meant R.quorum self.old.setup) (with_log B.meaning self.old log.old) node effect.now power result (with_log B.meaning self.new log.new) }
     {
         let entry = find_place(log, &effect.message)?;
         if !self.settle(node, effect.change, effect.volatile, power) {

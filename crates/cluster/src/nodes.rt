@@ -14,14 +14,14 @@ use store::Bank;
 impl<B: Bank, R: VotingRule> Cluster<B, R> {
     // How many nodes there are.
     pub(crate) fn count(&self) -> u8
-        ensures { result ≡ count (meant quorum self.now.setup) (alone meaning self.now) }
+        ensures { result ≡ count (meant R.quorum self.now.setup) (alone B.meaning self.now) }
     {
         self.bank.count().min(u32::from(MAX_NODES)) as u8
     }
 
     // The cluster is open.
     fn check_open(&self) -> Result<(), Refusal>
-        ensures { result ≡ decided (shut_test (meant quorum self.now.setup) (alone meaning self.now) ∷ []) tt }
+        ensures { result ≡ decided (shut_test (meant R.quorum self.now.setup) (alone B.meaning self.now) ∷ []) tt }
     {
         match self.shut {
             Some(_) => Err(Refusal::ClusterShut),
@@ -31,7 +31,7 @@ impl<B: Bank, R: VotingRule> Cluster<B, R> {
 
     // The number is a node's.
     pub(crate) fn check_node(&self, node: u8) -> Result<(), Refusal>
-        ensures { result ≡ decided (node_test (meant quorum self.now.setup) (alone meaning self.now) node ∷ []) tt }
+        ensures { result ≡ decided (node_test (meant R.quorum self.now.setup) (alone B.meaning self.now) node ∷ []) tt }
     {
         if node < self.count() {
             Ok(())
@@ -42,7 +42,7 @@ impl<B: Bank, R: VotingRule> Cluster<B, R> {
 
     // The configuration is legal.
     pub(crate) fn check_configuration(&self, configuration: NodeSet) -> Result<(), Refusal>
-        ensures { result ≡ decided (configuration_test (meant quorum self.now.setup) (alone meaning self.now) configuration ∷ []) tt }
+        ensures { result ≡ decided (configuration_test (meant R.quorum self.now.setup) (alone B.meaning self.now) configuration ∷ []) tt }
     {
         if configuration.is_configuration(self.count()) {
             Ok(())
@@ -55,9 +55,9 @@ impl<B: Bank, R: VotingRule> Cluster<B, R> {
     /// or has no such node, refuses.
     pub fn node(&mut self, node: u8) -> Result<NodeState, Refusal>
         ensures setup { self.new.setup ≡ self.old.setup }
-        ensures same { alone meaning self.new ≡ alone meaning self.old }
-        ensures value { result ≡ decided (shut_test (meant quorum self.old.setup) (alone meaning self.old) ∷ node_test (meant quorum self.old.setup) (alone meaning self.old) node ∷ []) (node_at (alone meaning self.old) node) }
-        ensures known { OnOk result (node < count (meant quorum self.old.setup) (alone meaning self.old)) }
+        ensures same { alone B.meaning self.new ≡ alone B.meaning self.old }
+        ensures value { result ≡ decided (shut_test (meant R.quorum self.old.setup) (alone B.meaning self.old) ∷ node_test (meant R.quorum self.old.setup) (alone B.meaning self.old) node ∷ []) (node_at (alone B.meaning self.old) node) }
+        ensures known { OnOk result (node < count (meant R.quorum self.old.setup) (alone B.meaning self.old)) }
     {
         self.check_open()?;
         self.check_node(node)?;

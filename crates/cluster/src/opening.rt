@@ -20,8 +20,8 @@ impl<B: Bank, R: VotingRule> Cluster<B, R> {
         initial_value: Value,
         rule: R,
     ) -> Cluster<B, R>
-        ensures setup { meant quorum result.setup ≡ setup_of (quorum rule) initial_configuration initial_value }
-        ensures opened { (log : List ℕ) → with_log meaning result log ≡ opened (setup_of (quorum rule) initial_configuration initial_value) (meaning bank) log }
+        ensures setup { meant R.quorum result.setup ≡ setup_of (R.quorum rule) initial_configuration initial_value }
+        ensures opened { (log : List ℕ) → with_log B.meaning result log ≡ opened (setup_of (R.quorum rule) initial_configuration initial_value) (B.meaning bank) log }
     {
         let setup = Setup {
             rule,
@@ -40,8 +40,8 @@ impl<B: Bank, R: VotingRule> Cluster<B, R> {
 
 // Whether a cluster can be opened over the bank, or why not.
 fn examine<B: Bank, R: VotingRule>(setup: &Setup<R>, bank: &mut B) -> Result<(), Refusal>
-    ensures same { meaning bank.new ≡ meaning bank.old }
-    ensures value { result ≡ opening (meant quorum setup.now) (meaning bank.old) }
+    ensures same { B.meaning bank.new ≡ B.meaning bank.old }
+    ensures value { result ≡ opening (meant R.quorum setup.now) (B.meaning bank.old) }
 {
     if !bank.all_sound() {
         return Err(Refusal::UnsoundStore);
@@ -61,9 +61,9 @@ fn examine<B: Bank, R: VotingRule>(setup: &Setup<R>, bank: &mut B) -> Result<(),
 
 // Whether each store of the bank is fresh.
 fn are_fresh<B: Bank, R: VotingRule>(setup: &Setup<R>, bank: &mut B, count: u16) -> bool
-    requires { count ≡ length (meaning bank.old) }
-    ensures same { meaning bank.new ≡ meaning bank.old }
-    ensures value { result ≡ all_fresh (meant quorum setup.now) (meaning bank.old) }
+    requires { count ≡ length (B.meaning bank.old) }
+    ensures same { B.meaning bank.new ≡ B.meaning bank.old }
+    ensures value { result ≡ all_fresh (meant R.quorum setup.now) (B.meaning bank.old) }
 {
     for at in 0..count {
         if !has_fresh(setup, bank, at) {
@@ -75,9 +75,9 @@ fn are_fresh<B: Bank, R: VotingRule>(setup: &Setup<R>, bank: &mut B, count: u16)
 
 // Whether a store of the bank is fresh.
 fn has_fresh<B: Bank, R: VotingRule>(setup: &Setup<R>, bank: &mut B, at: u16) -> bool
-    requires { at < length (meaning bank.old) }
-    ensures same { meaning bank.new ≡ meaning bank.old }
-    ensures value { result ≡ fresh (meant quorum setup.now) (store_at (meaning bank.old) at).content }
+    requires { at < length (B.meaning bank.old) }
+    ensures same { B.meaning bank.new ≡ B.meaning bank.old }
+    ensures value { result ≡ fresh (meant R.quorum setup.now) (store_at (B.meaning bank.old) at).content }
 {
     match bank.read(at) {
         Some(kept) => is_fresh(setup, &kept),
@@ -87,7 +87,7 @@ fn has_fresh<B: Bank, R: VotingRule>(setup: &Setup<R>, bank: &mut B, at: u16) ->
 
 // Whether the record is one to start from.
 fn is_fresh<R: VotingRule>(setup: &Setup<R>, kept: &Record) -> bool
-    ensures { result ≡ fresh (meant quorum setup.now) kept.now }
+    ensures { result ≡ fresh (meant R.quorum setup.now) kept.now }
 {
     kept.current_term == 0
         && kept.last_accepted_term == 0

@@ -19,7 +19,7 @@ use store::Bank;
 impl<B: Bank, R: VotingRule> Cluster<B, R> {
     /// Carries out a call.
     pub fn call(&mut self, call: Call, log: &mut [u8]) -> Answer
-        ensures { Called quorum meaning self.old log.old call result self.new log.new }
+        ensures { Called R.quorum B.meaning self.old log.old call result self.new log.new }
     {
         match call {
             Call::Bootstrap { node, power } => self.bootstrap(node, power),
@@ -46,7 +46,7 @@ impl<B: Bank, R: VotingRule> Cluster<B, R> {
     // Takes a turn: its call is carried out, and its answer written down.
     fn take(&mut self, turn: &mut Turn, log: &mut [u8])
         ensures call { turn.new.call ≡ turn.old.call }
-        ensures called { Called quorum meaning self.old log.old turn.old.call turn.new.answer self.new log.new }
+        ensures called { Called R.quorum B.meaning self.old log.old turn.old.call turn.new.answer self.new log.new }
     {
         turn.answer = self.call(turn.call, log);
     }
@@ -54,7 +54,7 @@ impl<B: Bank, R: VotingRule> Cluster<B, R> {
     // Takes the turns, one after the other.
     fn play(&mut self, turns: &mut [Turn], log: &mut [u8])
         ensures setup { self.new.setup ≡ self.old.setup }
-        ensures played { Played (meant quorum self.old.setup) (with_log meaning self.old log.old) turns.old turns.new (with_log meaning self.new log.new) }
+        ensures played { Played (meant R.quorum self.old.setup) (with_log B.meaning self.old log.old) turns.old turns.new (with_log B.meaning self.new log.new) }
     {
         for turn in turns.iter_mut() {
             self.take(turn, log);
@@ -74,8 +74,8 @@ pub fn run<B: Bank, R: VotingRule>(
     log: &mut [u8],
     turns: &mut [Turn],
 ) -> Result<Cluster<B, R>, NotRun<B, R>>
-    ensures refused { (clear_to log.old capacity).answer ≡ Err IllFormedLog → GivenBack quorum meaning bank rule initial_configuration initial_value turns.old result log.old log.new turns.new }
-    ensures ran { (clear_to log.old capacity).answer ≡ Ok tt → Ran quorum meaning bank rule initial_configuration initial_value turns.old capacity result log.new turns.new }
+    ensures refused { (clear_to log.old capacity).answer ≡ Err IllFormedLog → GivenBack R.quorum B.meaning bank rule initial_configuration initial_value turns.old result log.old log.new turns.new }
+    ensures ran { (clear_to log.old capacity).answer ≡ Ok tt → Ran R.quorum B.meaning bank rule initial_configuration initial_value turns.old capacity result log.new turns.new }
 {
     if let Err(fault) = clear(log, capacity) {
         let refusal = Refusal::from(fault);

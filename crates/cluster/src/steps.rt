@@ -24,7 +24,7 @@ impl<B: Bank, R: VotingRule> Cluster<B, R> {
     // Bootstrap: the cluster is open and has the node, which is not bootstrapped yet.
     pub(crate) fn bootstrap_step(&mut self, node: u8, power: Power) -> Answer
         ensures setup { self.new.setup ≡ self.old.setup }
-        ensures step { Step (meant quorum self.old.setup) (alone meaning self.old) (CallBootstrap node power) result (alone meaning self.new) }
+        ensures step { Step (meant R.quorum self.old.setup) (alone B.meaning self.old) (CallBootstrap node power) result (alone B.meaning self.new) }
     {
         let state = self.node(node)?;
         let effect = self.setup.bootstrap(&state)?;
@@ -41,7 +41,7 @@ impl<B: Bank, R: VotingRule> Cluster<B, R> {
         log: &mut [u8],
     ) -> Answer
         ensures setup { self.new.setup ≡ self.old.setup }
-        ensures step { Step (meant quorum self.old.setup) (with_log meaning self.old log.old) (CallStartJoin node leader term power) result (with_log meaning self.new log.new) }
+        ensures step { Step (meant R.quorum self.old.setup) (with_log B.meaning self.old log.old) (CallStartJoin node leader term power) result (with_log B.meaning self.new log.new) }
     {
         let effect = self.decide_start_join(node, leader, term, log)?;
         self.carry_out(node, &effect, power, log)
@@ -56,9 +56,9 @@ impl<B: Bank, R: VotingRule> Cluster<B, R> {
         log: &[u8],
     ) -> Result<Effect, Refusal>
         ensures setup { self.new.setup ≡ self.old.setup }
-        ensures same { alone meaning self.new ≡ alone meaning self.old }
-        ensures value { result ≡ decision (meant quorum self.old.setup) (with_log meaning self.old log.now) (CallStartJoin node leader term no_power) }
-        ensures known { OnOk result (node < count (meant quorum self.old.setup) (alone meaning self.old)) }
+        ensures same { alone B.meaning self.new ≡ alone B.meaning self.old }
+        ensures value { result ≡ decision (meant R.quorum self.old.setup) (with_log B.meaning self.old log.now) (CallStartJoin node leader term no_power) }
+        ensures known { OnOk result (node < count (meant R.quorum self.old.setup) (alone B.meaning self.old)) }
     {
         let state = self.node(node)?;
         self.check_node(leader)?;
@@ -77,7 +77,7 @@ impl<B: Bank, R: VotingRule> Cluster<B, R> {
         log: &mut [u8],
     ) -> Answer
         ensures setup { self.new.setup ≡ self.old.setup }
-        ensures step { Step (meant quorum self.old.setup) (with_log meaning self.old log.old) (CallPublish node term version value configuration) result (with_log meaning self.new log.new) }
+        ensures step { Step (meant R.quorum self.old.setup) (with_log B.meaning self.old log.old) (CallPublish node term version value configuration) result (with_log B.meaning self.new log.new) }
     {
         let effect = self.decide_publish(node, term, version, value, configuration, log)?;
         self.carry_out(node, &effect, NO_POWER, log)
@@ -94,9 +94,9 @@ impl<B: Bank, R: VotingRule> Cluster<B, R> {
         log: &[u8],
     ) -> Result<Effect, Refusal>
         ensures setup { self.new.setup ≡ self.old.setup }
-        ensures same { alone meaning self.new ≡ alone meaning self.old }
-        ensures value { result ≡ decision (meant quorum self.old.setup) (with_log meaning self.old log.now) (CallPublish node term version value configuration) }
-        ensures known { OnOk result (node < count (meant quorum self.old.setup) (alone meaning self.old)) }
+        ensures same { alone B.meaning self.new ≡ alone B.meaning self.old }
+        ensures value { result ≡ decision (meant R.quorum self.old.setup) (with_log B.meaning self.old log.now) (CallPublish node term version value configuration) }
+        ensures known { OnOk result (node < count (meant R.quorum self.old.setup) (alone B.meaning self.old)) }
     {
         let state = self.may_publish(node, configuration, log)?;
         self.setup
@@ -111,9 +111,9 @@ impl<B: Bank, R: VotingRule> Cluster<B, R> {
         log: &[u8],
     ) -> Result<NodeState, Refusal>
         ensures setup { self.new.setup ≡ self.old.setup }
-        ensures same { alone meaning self.new ≡ alone meaning self.old }
-        ensures value { result ≡ decided (publish_input_tests (meant quorum self.old.setup) (with_log meaning self.old log.now) node configuration) (node_at (alone meaning self.old) node) }
-        ensures known { OnOk result (node < count (meant quorum self.old.setup) (alone meaning self.old)) }
+        ensures same { alone B.meaning self.new ≡ alone B.meaning self.old }
+        ensures value { result ≡ decided (publish_input_tests (meant R.quorum self.old.setup) (with_log B.meaning self.old log.now) node configuration) (node_at (alone B.meaning self.old) node) }
+        ensures known { OnOk result (node < count (meant R.quorum self.old.setup) (alone B.meaning self.old)) }
     {
         let state = self.node(node)?;
         Sizes::of(log)?;
@@ -130,7 +130,7 @@ impl<B: Bank, R: VotingRule> Cluster<B, R> {
         log: &mut [u8],
     ) -> Answer
         ensures setup { self.new.setup ≡ self.old.setup }
-        ensures step { Step (meant quorum self.old.setup) (with_log meaning self.old log.old) (CallDeliver entry node power) result (with_log meaning self.new log.new) }
+        ensures step { Step (meant R.quorum self.old.setup) (with_log B.meaning self.old log.old) (CallDeliver entry node power) result (with_log B.meaning self.new log.new) }
     {
         let state = self.node(node)?;
         let nodes = self.count();
@@ -141,7 +141,7 @@ impl<B: Bank, R: VotingRule> Cluster<B, R> {
     // Restart: the node has the volatile values that follow from its record.
     pub(crate) fn restart_step(&mut self, node: u8) -> Answer
         ensures setup { self.new.setup ≡ self.old.setup }
-        ensures step { Step (meant quorum self.old.setup) (alone meaning self.old) (CallRestart node) result (alone meaning self.new) }
+        ensures step { Step (meant R.quorum self.old.setup) (alone B.meaning self.old) (CallRestart node) result (alone B.meaning self.new) }
     {
         let state = self.node(node)?;
         let effect = self.setup.restart(&state);

@@ -5,7 +5,7 @@ use crate::helpers::{
 };
 use cluster::Call;
 use message_log::clear;
-use protocol::{NodeStateDebug, NodeStatePartialEq, Record, Refusal, Volatile};
+use protocol::{Record, Refusal, Volatile};
 use std::process::Abort;
 use std::test::Fail;
 use store::{Pair, Power, RingStore, Single};

@@ -4,7 +4,7 @@ use crate::helpers::{
     refused, restarted, state, three,
 };
 use message_log::append;
-use protocol::{Join, Message, NodeStateDebug, NodeStatePartialEq, Refusal};
+use protocol::{Join, Message, Refusal};
 use std::test::Fail;
 
 // One node elects itself and commits a version, which takes four entries.

@@ -1,9 +1,7 @@
 //! What the tests share.
 use cluster::{Answer, Call, Cluster};
 use message_log::clear;
-use protocol::{
-    NodeState, NodeStateDebug, NodeStatePartialEq, Record, Refusal, Term, Value, Version, Volatile,
-};
+use protocol::{NodeState, Record, Refusal, Term, Value, Version, Volatile};
 use quorum::{Majority, NodeSet, VotingRule};
 use std::alloc::Global;
 use std::process::Abort;

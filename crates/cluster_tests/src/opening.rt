@@ -2,7 +2,7 @@
 use crate::helpers::{
     bootstrap, deliver, fresh, fresh_ring, join, open, plain, play, publish, record, restart, three,
 };
-use protocol::{NodeStateDebug, NodeStatePartialEq, Refusal};
+use protocol::Refusal;
 use std::alloc::{AllocError, Global};
 use std::process::Abort;
 use std::test::Fail;

@@ -3,7 +3,7 @@ use crate::helpers::{
     bootstrap, deliver, election, empty_log, fresh, join, leading, open, plain, play, publish,
     record, restart, restarted, state, three,
 };
-use protocol::{NodeStateDebug, NodeStatePartialEq, Refusal, Volatile};
+use protocol::{Refusal, Volatile};
 use std::test::Fail;
 
 #[test]

@@ -15,7 +15,7 @@ impl<R: VotingRule> Setup<R> {
     /// The node accepts and commits the initial value and the initial configuration, once; its
     /// terms and its version stay.
     pub fn bootstrap(&self, node: &NodeState) -> Result<Effect, Refusal>
-        ensures { result ≡ decided (bootstrap_tests (meant quorum self.now) node.now) (bootstrap_effect (meant quorum self.now) node.now) }
+        ensures { result ≡ decided (bootstrap_tests (meant R.quorum self.now) node.now) (bootstrap_effect (meant R.quorum self.now) node.now) }
     {
         let kept = &node.kept;
         if kept.last_accepted_configuration != NodeSet::empty() {
@@ -43,7 +43,7 @@ impl<R: VotingRule> Setup<R> {
         leader: u8,
         term: Term,
     ) -> Result<Effect, Refusal>
-        ensures { result ≡ decided (start_join_tests (meant quorum self.now) node.now term) (start_join_effect (meant quorum self.now) node.now number leader term) }
+        ensures { result ≡ decided (start_join_tests (meant R.quorum self.now) node.now term) (start_join_effect (meant R.quorum self.now) node.now number leader term) }
     {
         let kept = &node.kept;
         if term <= kept.current_term {
@@ -78,7 +78,7 @@ impl<R: VotingRule> Setup<R> {
         value: Value,
         configuration: NodeSet,
     ) -> Result<Effect, Refusal>
-        ensures { result ≡ decided (publish_tests (meant quorum self.now) node.now term version configuration) (publish_effect (meant quorum self.now) node.now number term version value configuration) }
+        ensures { result ≡ decided (publish_tests (meant R.quorum self.now) node.now term version configuration) (publish_effect (meant R.quorum self.now) node.now number term version value configuration) }
     {
         let kept = &node.kept;
         let volatile = &node.volatile;

@@ -19,7 +19,7 @@ impl<R: VotingRule> Setup<R> {
         log: &[u8],
         entry: u16,
     ) -> Result<Effect, Refusal>
-        ensures { result ≡ on_entry (meant quorum self.now) node.now number (message_at nodes log.now entry) }
+        ensures { result ≡ on_entry (meant R.quorum self.now) node.now number (message_at nodes log.now entry) }
     {
         let Some(stored) = look_up(log, entry)? else {
             return Err(Refusal::NoSuchEntry);
@@ -35,7 +35,7 @@ impl<R: VotingRule> Setup<R> {
         number: u8,
         message: &Message,
     ) -> Result<Effect, Refusal>
-        ensures { result ≡ on_entry (meant quorum self.now) node.now number (Ok message.now) }
+        ensures { result ≡ on_entry (meant R.quorum self.now) node.now number (Ok message.now) }
     {
         if !message.is_for(number) {
             return Err(Refusal::OtherDestination);

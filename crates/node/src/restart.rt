@@ -24,7 +24,7 @@ pub fn restarted(kept: &Record) -> Volatile
 impl<R: VotingRule> Setup<R> {
     /// A restart: the volatile values are lost.
     pub fn restart(&self, node: &NodeState) -> Effect
-        ensures { result ≡ restart_effect (meant quorum self.now) node.now }
+        ensures { result ≡ restart_effect (meant R.quorum self.now) node.now }
     {
         Effect {
             change: None,

@@ -1,8 +1,8 @@
 //! Decisions of a node among three, by majority.
 use crate::Setup;
 use protocol::{
-    Accepted, Change, Commit, Effect, EffectDebug, EffectPartialEq, Join, Message, NodeState,
-    Publication, Record, Refusal, Response, Volatile,
+    Accepted, Change, Commit, Effect, Join, Message, NodeState, Publication, Record, Refusal,
+    Response, Volatile,
 };
 use quorum::{Majority, NodeSet};
 

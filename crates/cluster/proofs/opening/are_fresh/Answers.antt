@@ -1,4 +1,4 @@
-use Rattle.std.proofs.Common.{◌≡◌, ℕ, List, sym, ap, ◌∙◌, arith}
+use Rattle.std.proofs.Common.{List, sym, ap, ◌∙◌, arith}
 use Rattle.store.specs.Stores.{Meaning}
 use Rattle.store.specs.Banks.{store_at}
 use Rattle.node.specs.Setups.{meant}

@@ -1,14 +1,14 @@
-use Rattle.std.proofs.Common.{◌≡◌, ℕ, Ok, Err, sym, ap, ◌∙◌, arith}
+use Rattle.std.proofs.Common.{◌≡◌, ℕ, Ok, Err, ◌∙◌, arith}
 use Rattle.message_log.specs.declared.fault.Fault.TheVariants.{IllFormedLog}
 use Rattle.cluster.proofs.WholeRuns.{cleared_if_done, ran_by_playing}
 use Rattle.cluster.proofs.running.run.Goals as goal
 
 pub returns : goal.returns
 returns g c =
-    let done : Ok c.in-default.field-0 ≡ _ = c.in-default.ensures.answer in
+    let done : Ok c.in_default.field-0 ≡ _ = c.in_default.ensures.answer in
     record {
       refused = λ h.
-          let q : Ok c.in-default.field-0 ≡ Err IllFormedLog = done ∙ h in
+          let q : Ok c.in_default.field-0 ≡ Err IllFormedLog = done ∙ h in
           let z : ◌≡◌ {A = ℕ} 0 1 = cc in
           absurd (omega arith);
       ran = λ h.

@@ -1,4 +1,4 @@
-use Rattle.std.proofs.Common.{ℕ, Err, refl, ap, ◌∙◌}
+use Rattle.std.proofs.Common.{ℕ, Err, ap, ◌∙◌}
 use Rattle.std.proofs.lemmas.Result.{err_from_is_err_and, IfOk-from_err}
 use Rattle.protocol.specs.declared.node_state.NodeState.{NodeState}
 use Rattle.protocol.specs.Decisions.{decided, publish_tests, publish_effect}
@@ -15,21 +15,21 @@ returns g c = record {
   same = c.may_publish.ensures.same;
   value = c.publish.ensures
       ∙ ap (λ setup.
-      decided (publish_tests (meant g.R.VotingRule.quorum setup) c.in-ok-state.state c.args.term c.args.version c.args.configuration)
-      (publish_effect (meant g.R.VotingRule.quorum setup) c.in-ok-state.state c.args.node c.args.term c.args.version c.args.value c.args.configuration))
+      decided (publish_tests (meant g.R.VotingRule.quorum setup) c.in_ok-state.state c.args.term c.args.version c.args.configuration)
+      (publish_effect (meant g.R.VotingRule.quorum setup) c.in_ok-state.state c.args.node c.args.term c.args.version c.args.value c.args.configuration))
       c.may_publish.ensures.setup
       ∙ passed_on
       (publish_input_tests (meant g.R.VotingRule.quorum c.args.self.now.setup) (with_log g.B.Bank.meaning c.args.self.now c.args.log.now) c.args.node c.args.configuration)
-      _ c.in-ok-state.state
+      _ c.in_ok-state.state
       (λ (state : NodeState ℕ).
       decided (publish_tests (meant g.R.VotingRule.quorum c.args.self.now.setup) state c.args.term c.args.version c.args.configuration)
       (publish_effect (meant g.R.VotingRule.quorum c.args.self.now.setup) state c.args.node c.args.term c.args.version c.args.value c.args.configuration))
-      c.in-ok-state.ensures.value;
-  known = made_of_all c.publish.result c.in-ok-state.ensures.known;
+      c.in_ok-state.ensures.value;
+  known = made_of_all c.publish.result c.in_ok-state.ensures.known;
 }
 
-pub returns-in-err-state : goal.returns-in-err-state
-returns-in-err-state g c =
+pub returns-in_err-state : goal.returns-in_err-state
+returns-in_err-state g c =
     let p = err_from_is_err_and c.from_residual.result c.from_residual.ensures.1 in
     record {
       setup = c.may_publish.ensures.setup;
@@ -37,6 +37,6 @@ returns-in-err-state g c =
       value = p.1 ∙ ap Err p.2
           ∙ refused_on
           (publish_input_tests (meant g.R.VotingRule.quorum c.args.self.now.setup) (with_log g.B.Bank.meaning c.args.self.now c.args.log.now) c.args.node c.args.configuration)
-          (node_at (alone g.B.Bank.meaning c.args.self.now) c.args.node) _ _ c.in-err-state.ensures.value;
+          (node_at (alone g.B.Bank.meaning c.args.self.now) c.args.node) _ _ c.in_err-state.ensures.value;
       known = IfOk-from_err c.from_residual.result _ c.from_residual.ensures.0;
     }
