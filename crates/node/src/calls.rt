@@ -1,6 +1,7 @@
 //! What a node decides when it is called upon: bootstrap, start join, publish.
 ghost use Rattle.std.specs.Prelude.{◌≡◌};
 ghost use Rattle.protocol.specs.Decisions.{decided, bootstrap_tests, bootstrap_effect, start_join_tests, start_join_effect, publish_tests, publish_effect};
+ghost use Rattle.protocol.specs.Meanings.{decision_meant, node_meant};
 ghost use Rattle.node.specs.Setups.{meant};
 
 use crate::restart::restarted;
@@ -15,7 +16,7 @@ impl<R: VotingRule> Setup<R> {
     /// The node accepts and commits the initial value and the initial configuration, once; its
     /// terms and its version stay.
     pub fn bootstrap(&self, node: &NodeState) -> Result<Effect, Refusal>
-        ensures { result ≡ decided (bootstrap_tests (meant R.quorum self.now) node.now) (bootstrap_effect (meant R.quorum self.now) node.now) }
+        ensures { decision_meant result ≡ decided (bootstrap_tests (meant R.quorum self.now) (node_meant node.now)) (bootstrap_effect (meant R.quorum self.now) (node_meant node.now)) }
     {
         let kept = &node.kept;
         if kept.last_accepted_configuration != NodeSet::empty() {
@@ -43,7 +44,7 @@ impl<R: VotingRule> Setup<R> {
         leader: u8,
         term: Term,
     ) -> Result<Effect, Refusal>
-        ensures { result ≡ decided (start_join_tests (meant R.quorum self.now) node.now term) (start_join_effect (meant R.quorum self.now) node.now number leader term) }
+        ensures { decision_meant result ≡ decided (start_join_tests (meant R.quorum self.now) (node_meant node.now) term) (start_join_effect (meant R.quorum self.now) (node_meant node.now) number leader term) }
     {
         let kept = &node.kept;
         if term <= kept.current_term {
@@ -78,7 +79,7 @@ impl<R: VotingRule> Setup<R> {
         value: Value,
         configuration: NodeSet,
     ) -> Result<Effect, Refusal>
-        ensures { result ≡ decided (publish_tests (meant R.quorum self.now) node.now term version configuration) (publish_effect (meant R.quorum self.now) node.now number term version value configuration) }
+        ensures { decision_meant result ≡ decided (publish_tests (meant R.quorum self.now) (node_meant node.now) term version configuration) (publish_effect (meant R.quorum self.now) (node_meant node.now) number term version value configuration) }
     {
         let kept = &node.kept;
         let volatile = &node.volatile;

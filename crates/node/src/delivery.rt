@@ -1,6 +1,7 @@
 //! What a node decides when a message is delivered to it.
 ghost use Rattle.std.specs.Prelude.{◌≡◌};
 ghost use Rattle.protocol.specs.Decisions.{decided, joiner_ahead, join_tests, elects, join_effect, publication_tests, publication_effect, response_tests, decides, response_effect, commit_tests, commit_effect, deliver_decided};
+ghost use Rattle.protocol.specs.Meanings.{decision_meant, node_meant};
 ghost use Rattle.node.specs.Setups.{meant};
 
 use crate::setup::Setup;
@@ -18,7 +19,7 @@ impl<R: VotingRule> Setup<R> {
         number: u8,
         message: &Message,
     ) -> Result<Effect, Refusal>
-        ensures { result ≡ deliver_decided (meant R.quorum self.now) node.now number message.now }
+        ensures { decision_meant result ≡ deliver_decided (meant R.quorum self.now) (node_meant node.now) number message.now }
     {
         match message {
             Message::Join(join) => self.count_join(node, join),
@@ -30,7 +31,7 @@ impl<R: VotingRule> Setup<R> {
 
     // A join: the vote of its source is counted.
     fn count_join(&self, node: &NodeState, join: &Join) -> Result<Effect, Refusal>
-        ensures { result ≡ decided (join_tests (meant R.quorum self.now) node.now join.now) (join_effect (meant R.quorum self.now) node.now join.now) }
+        ensures { decision_meant result ≡ decided (join_tests (meant R.quorum self.now) (node_meant node.now) join.now) (join_effect (meant R.quorum self.now) (node_meant node.now) join.now) }
     {
         let kept = &node.kept;
         let volatile = &node.volatile;
@@ -68,7 +69,7 @@ impl<R: VotingRule> Setup<R> {
 
     // Whether the joiner has accepted something newer than the node has.
     fn is_joiner_ahead(&self, node: &NodeState, join: &Join) -> bool
-        ensures { result ≡ joiner_ahead (meant R.quorum self.now) node.now join.now }
+        ensures { result ≡ joiner_ahead (meant R.quorum self.now) (node_meant node.now) join.now }
     {
         let kept = &node.kept;
         join.base_term > kept.last_accepted_term
@@ -78,7 +79,7 @@ impl<R: VotingRule> Setup<R> {
 
     // Whether the votes win the election: in the accepted and in the committed configuration.
     fn elects(&self, node: &NodeState, join_votes: NodeSet) -> bool
-        ensures { result ≡ elects (meant R.quorum self.now) node.now join_votes }
+        ensures { result ≡ elects (meant R.quorum self.now) (node_meant node.now) join_votes }
     {
         let accepted = node.kept.last_accepted_configuration;
         let committed = node.kept.last_committed_configuration;
@@ -92,7 +93,7 @@ impl<R: VotingRule> Setup<R> {
         number: u8,
         publication: &Publication,
     ) -> Result<Effect, Refusal>
-        ensures { result ≡ decided (publication_tests (meant R.quorum self.now) node.now publication.now) (publication_effect (meant R.quorum self.now) node.now number publication.now) }
+        ensures { decision_meant result ≡ decided (publication_tests (meant R.quorum self.now) (node_meant node.now) publication.now) (publication_effect (meant R.quorum self.now) (node_meant node.now) number publication.now) }
     {
         let kept = &node.kept;
         if publication.term != kept.current_term {
@@ -128,7 +129,7 @@ impl<R: VotingRule> Setup<R> {
         number: u8,
         response: &Response,
     ) -> Result<Effect, Refusal>
-        ensures { result ≡ decided (response_tests (meant R.quorum self.now) node.now response.now) (response_effect (meant R.quorum self.now) node.now number response.now) }
+        ensures { decision_meant result ≡ decided (response_tests (meant R.quorum self.now) (node_meant node.now) response.now) (response_effect (meant R.quorum self.now) (node_meant node.now) number response.now) }
     {
         let volatile = &node.volatile;
         if !volatile.election_won {
@@ -159,7 +160,7 @@ impl<R: VotingRule> Setup<R> {
     // Whether the votes decide the publication: in the committed and in the published
     // configuration.
     fn decides(&self, node: &NodeState, publish_votes: NodeSet) -> bool
-        ensures { result ≡ decides (meant R.quorum self.now) node.now publish_votes }
+        ensures { result ≡ decides (meant R.quorum self.now) (node_meant node.now) publish_votes }
     {
         let committed = node.kept.last_committed_configuration;
         let published = node.volatile.last_published_configuration;
@@ -169,7 +170,7 @@ impl<R: VotingRule> Setup<R> {
 
     // A commit: the accepted configuration is marked as committed.
     fn commit(&self, node: &NodeState, commit: &Commit) -> Result<Effect, Refusal>
-        ensures { result ≡ decided (commit_tests (meant R.quorum self.now) node.now commit.now) (commit_effect (meant R.quorum self.now) node.now) }
+        ensures { decision_meant result ≡ decided (commit_tests (meant R.quorum self.now) (node_meant node.now) commit.now) (commit_effect (meant R.quorum self.now) (node_meant node.now)) }
     {
         let kept = &node.kept;
         let volatile = &node.volatile;

@@ -2,6 +2,7 @@
 ghost use Rattle.std.specs.Prelude.{◌≡◌, Ok};
 ghost use Rattle.message_log.specs.Log.{message_at};
 ghost use Rattle.node.specs.Deliveries.{on_entry};
+ghost use Rattle.protocol.specs.Meanings.{decision_meant, node_meant};
 ghost use Rattle.node.specs.Setups.{meant};
 
 use crate::setup::Setup;
@@ -19,7 +20,7 @@ impl<R: VotingRule> Setup<R> {
         log: &[u8],
         entry: u16,
     ) -> Result<Effect, Refusal>
-        ensures { result ≡ on_entry (meant R.quorum self.now) node.now number (message_at nodes log.now entry) }
+        ensures { decision_meant result ≡ on_entry (meant R.quorum self.now) (node_meant node.now) number (message_at nodes log.now entry) }
     {
         let Some(stored) = look_up(log, entry)? else {
             return Err(Refusal::NoSuchEntry);
@@ -35,7 +36,7 @@ impl<R: VotingRule> Setup<R> {
         number: u8,
         message: &Message,
     ) -> Result<Effect, Refusal>
-        ensures { result ≡ on_entry (meant R.quorum self.now) node.now number (Ok message.now) }
+        ensures { decision_meant result ≡ on_entry (meant R.quorum self.now) (node_meant node.now) number (Ok message.now) }
     {
         if !message.is_for(number) {
             return Err(Refusal::OtherDestination);

@@ -1,6 +1,7 @@
 //! What a node is after a restart.
 ghost use Rattle.std.specs.Prelude.{◌≡◌};
 ghost use Rattle.protocol.specs.Decisions.{restarted, restart_effect};
+ghost use Rattle.protocol.specs.Meanings.{effect_meant, node_meant};
 ghost use Rattle.node.specs.Setups.{meant};
 
 use crate::setup::Setup;
@@ -24,7 +25,7 @@ pub fn restarted(kept: &Record) -> Volatile
 impl<R: VotingRule> Setup<R> {
     /// A restart: the volatile values are lost.
     pub fn restart(&self, node: &NodeState) -> Effect
-        ensures { result ≡ restart_effect (meant R.quorum self.now) node.now }
+        ensures { effect_meant result ≡ restart_effect (meant R.quorum self.now) (node_meant node.now) }
     {
         Effect {
             change: None,
