@@ -8,9 +8,9 @@ use Rattle.std.proofs.lemmas.Option.{slice_get-get_or, slice_get_past}
 use Rattle.std.proofs.lemmas.Bool.{cond-true, cond-false, ltb-true, lt-ltb, le-ltb, lt-leb, le-leb, cases_lt}
 use Rattle.quorum.specs.Sets.{legal_configuration}
 use Rattle.protocol.specs.declared.change.Change.{Change}
-use Rattle.protocol.specs.declared.effect.Effect.{Effect}
+use Rattle.protocol.specs.Decisions.{Effect}
 use Rattle.protocol.specs.declared.message.Message.{Message}
-use Rattle.protocol.specs.declared.node_state.NodeState.{NodeState}
+use Rattle.protocol.specs.Decisions.{Node}
 use Rattle.protocol.specs.declared.record.Record.{Record}
 use Rattle.protocol.specs.declared.refusal.Refusal.{Refusal}
 use Rattle.protocol.specs.declared.refusal.Refusal.TheVariants.{UnknownNode, IllegalConfiguration, WriteUnfinished}
@@ -155,7 +155,7 @@ module _ (setup : Setup ℕ) (state : State) where
     abbrev store : Meaning
     store = store_at state.stores n
 
-    abbrev node : NodeState ℕ
+    abbrev node : Node ℕ
     node = node_at state n
 
     abbrev fate : Fate

@@ -5,11 +5,11 @@ use Rattle.std.specs.Option.{option_map}
 use Rattle.std.proofs.lemmas.Slice.Eq.{bytes_eq-Decides}
 use Rattle.std.proofs.lemmas.Bool.{and_parts, and_from, eqb-true, cond-true, cond-false, leb-false, lt-ltb, ltb-true, not-false, cases_Bool, false≢true}
 use Rattle.quorum.specs.Sets.{legal_configuration}
-use Rattle.protocol.specs.declared.effect.Effect.{Effect}
+use Rattle.protocol.specs.Decisions.{Effect}
 use Rattle.protocol.specs.declared.kind.Kind.{Kind}
 use Rattle.protocol.specs.declared.message.Message.{Message}
 use Rattle.protocol.specs.declared.message.Message.TheVariants as message
-use Rattle.protocol.specs.declared.node_state.NodeState.{NodeState}
+use Rattle.protocol.specs.Decisions.{Node}
 use Rattle.protocol.specs.declared.refusal.Refusal.{Refusal}
 use Rattle.protocol.specs.Decisions.{
   Setup,
@@ -38,16 +38,16 @@ use Rattle.protocol.specs.Positions.{position}
 use Rattle.protocol.specs.Calls as messages
 use Rattle.protocol.specs.Calls.{Entry, Fate, same_message, is_message}
 use Rattle.protocol.specs.Kinds.{kind_of_number}
-use Rattle.protocol.specs.Messages.{addressed, legal_message}
+use Rattle.protocol.specs.Messages.{is_for, legal_message}
 use Rattle.protocol.specs.Runs.{Lawful}
 use Rattle.protocol.specs.Steps.{Taken, Stopped, StepIsTheModels, CutIsTheModels}
 use Rattle.protocol.specs.Steps as steps
-use Rattle.safety.proofs.CallsAreSteps.{nth_getD}
-use Rattle.safety.proofs.Deciding.{Passed, taken}
-use Rattle.safety.proofs.MessagesAreLegal.{messages_are_legal}
-use Rattle.safety.proofs.Sending.{same_is_equal, same_itself}
-use Rattle.safety.proofs.Soundness.{Configured, reached_sound, won_legal}
-use Rattle.safety.proofs.Stepping.{steps_are_the_models}
+use Rattle.protocol.proofs.CallsAreSteps.{nth_getD}
+use Rattle.protocol.proofs.Deciding.{Passed, taken}
+use Rattle.protocol.proofs.MessagesAreLegal.{messages_are_legal}
+use Rattle.protocol.proofs.Sending.{same_is_equal, same_itself}
+use Rattle.protocol.proofs.Soundness.{Configured, reached_sound, won_legal}
+use Rattle.protocol.proofs.Stepping.{steps_are_the_models}
 use Rattle.message_log.specs.declared.fault.Fault.{Fault}
 use Rattle.message_log.specs.declared.fault.Fault.TheVariants.{UnknownKind}
 use Rattle.message_log.specs.Faults.{refusal_of}
@@ -65,6 +65,7 @@ use Rattle.cluster.specs.Calls.{Answer, count, node_called, shut_test, node_test
 use Rattle.cluster.specs.Worlds.{world_of, call_of, fate_of}
 use Rattle.cluster.specs.Runs.{Reached}
 use Rattle.cluster.specs.Models.{IfLent, IsLog, Sensible, outcome, Modelled, StepsOverBytesAreTheModels}
+use Rattle.cluster.proofs.Passing.{decided-checked}
 use Rattle.cluster.proofs.NodesDenoted.{nth_node, length_nodes}
 use Rattle.cluster.proofs.CallsAgree.{Agreed, outcome_of, calls_agree}
 use Rattle.cluster.proofs.Octets.{Octets, of_take, of_drop, of_encoding, of_each}
@@ -174,7 +175,7 @@ module _ (setup : Setup ℕ) (values : (x y : ℕ) → Decides (setup.same_value
     sends_effect : (m : Message ℕ) (tests : List Test) (effect : Effect ℕ) → message_in (decided tests effect) ≡ Some m
         → (Passed tests → effect.message ≡ Some m → Due m) → Due m
     sends_effect m tests effect h due =
-        sends m tests (Ok effect) h
+        sends m tests (Ok effect) (ap message_in (sym (decided-checked tests effect)) ∙ h)
         (λ p x e k.
         let same : effect ≡ x = cc in
         due p (ap (λ (y : Effect ℕ). y.message) same ∙ k))
@@ -195,7 +196,7 @@ module _ (setup : Setup ℕ) (values : (x y : ℕ) → Decides (setup.same_value
         there false k = impossible cc
 
     -- what a delivery sends
-    delivered : (n : ℕ) → ltb n N ≡ true → IsLog state.log → (node : NodeState ℕ) (x : Message ℕ) → legal_message N x ≡ true
+    delivered : (n : ℕ) → ltb n N ≡ true → IsLog state.log → (node : Node ℕ) (x : Message ℕ) → legal_message N x ≡ true
         → (effect : Effect ℕ) → deliver_decided setup node n x ≡ Ok effect → (m : Message ℕ) → effect.message ≡ Some m → Due m
     delivered n known log node (message.Join j) l effect d m h =
         let same = (taken (join_tests setup node j) (join_effect setup node j) effect d).1 in
@@ -220,17 +221,17 @@ module _ (setup : Setup ℕ) (values : (x y : ℕ) → Decides (setup.same_value
         let q : None ≡ Some m = ap (λ (y : Effect ℕ). y.message) same ∙ h in
         impossible cc
 
-    on_entry_sends : (n : ℕ) → ltb n N ≡ true → IsLog state.log → (node : NodeState ℕ) (r : Result (Message ℕ) Refusal)
+    on_entry_sends : (n : ℕ) → ltb n N ≡ true → IsLog state.log → (node : Node ℕ) (r : Result (Message ℕ) Refusal)
         → ((x : Message ℕ) → r ≡ Ok x → legal_message N x ≡ true)
         → (effect : Effect ℕ) → on_entry setup node n r ≡ Ok effect → (m : Message ℕ) → effect.message ≡ Some m → Due m
     on_entry_sends n known log node (Err why) legal effect d m h = impossible cc
     on_entry_sends n known log node (Ok x) legal effect d m h =
         ⊎_elim
-        (λ (t : addressed n x ≡ true). delivered n known log node x (legal x refl) effect (sym (cond-true (addressed n x) _ _ t) ∙ d) m h)
-        (λ (f : addressed n x ≡ false).
-        let q : ◌≡◌ {A = Result (Effect ℕ) Refusal} (Err _) (Ok effect) = sym (cond-false (addressed n x) _ _ f) ∙ d in
+        (λ (t : is_for n x ≡ true). delivered n known log node x (legal x refl) effect (sym (cond-true (is_for n x) _ _ t) ∙ d) m h)
+        (λ (f : is_for n x ≡ false).
+        let q : ◌≡◌ {A = Result (Effect ℕ) Refusal} (Err _) (Ok effect) = sym (cond-false (is_for n x) _ _ f) ∙ d in
         impossible cc)
-        (cases_Bool (addressed n x))
+        (cases_Bool (is_for n x))
 
   due : (call : Call) → Sensible state call → (m : Message ℕ) → message_in (decision setup state call) ≡ Some m → Due m
   due (Bootstrap n power) s m h =
@@ -306,12 +307,9 @@ pub modelled : (setup : Setup ℕ) → ((x y : ℕ) → Decides (setup.same_valu
     → Step setup before call answer after → Modelled setup before call answer after
 modelled setup values before after call answer step = record {
   step = step;
-  steps = λ s versions descendant.
-      subst (StepIsTheModels setup (world_of before) (call_of call) fate versions descendant) (agrees setup values before call answer after step s)
-      ((steps_are_the_models ℕ).steps setup values (world_of before) (call_of call) fate versions descendant);
-  cuts = λ s versions descendant.
-      subst (CutIsTheModels setup (world_of before) (call_of call) fate versions descendant) (agrees setup values before call answer after step s)
-      ((steps_are_the_models ℕ).cuts setup values (world_of before) (call_of call) fate versions descendant);
+  agrees = agrees setup values before call answer after step;
+  steps = (steps_are_the_models ℕ).steps setup values (world_of before) (call_of call) fate;
+  cuts = (steps_are_the_models ℕ).cuts setup values (world_of before) (call_of call) fate;
   otherwise = λ s versions descendant.
       subst
       (λ (o : messages.Outcome ℕ). Taken setup o

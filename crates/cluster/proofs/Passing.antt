@@ -1,8 +1,13 @@
 -- What follows where the tests of the input pass.
-use Rattle.std.proofs.Common.{◌≡◌, ℕ, Bool, true, false, List, [], ◌∷◌, IfOk, Ok, Err, Result, sym, refl, ap, ◌∙◌, arith}
+use Rattle.std.proofs.Common.{◌≡◌, ℕ, Bool, true, false, cond, List, [], ◌∷◌, IfOk, Ok, Err, Result, sym, refl, ap, ◌∙◌, arith}
 use Rattle.std.proofs.lemmas.Bool.{cond-true, cond-false}
 use Rattle.protocol.specs.declared.refusal.Refusal.{Refusal}
 use Rattle.protocol.specs.Decisions.{Test, checked, decided}
+
+-- the first test that holds refuses, and then the effect follows: the same in one step or in two
+pub decided-checked : {X : Type 0} (tests : List Test) (x : X) → decided tests x ≡ checked tests (Ok x)
+decided-checked [] x = refl
+decided-checked {X} (test ∷ tests) x = ap (λ (r : Result X Refusal). cond test.refuses (Err test.with) r) (decided-checked tests x)
 
 -- tests that let y pass as x go on to what comes next at y
 pub passed_on : {X Z : Type 0} (tests : List Test) (x y : X) (next : X → Result Z Refusal) → Ok y ≡ decided tests x → next y ≡ checked tests (next x)

@@ -4,7 +4,7 @@ use Rattle.std.specs.List.{slice_get, AllByRecursion}
 use Rattle.std.proofs.ByRecursion.{All-push}
 use Rattle.std.proofs.lemmas.List.{map_push, map-append}
 use Rattle.std.proofs.lemmas.Bool.{cond-true, cond-false, ltb-true, cases_lt}
-use Rattle.protocol.specs.declared.effect.Effect.{Effect}
+use Rattle.protocol.specs.Decisions.{Effect}
 use Rattle.protocol.specs.declared.message.Message.{Message}
 use Rattle.protocol.specs.declared.refusal.Refusal.{Refusal}
 use Rattle.protocol.specs.Decisions.{Setup}
@@ -14,8 +14,8 @@ use Rattle.protocol.specs.Calls.{Entry, entries_of, same_message, is_message}
 use Rattle.protocol.specs.Messages.{legal_message}
 use Rattle.protocol.specs.Runs as messages-run
 use Rattle.protocol.specs.Runs.{Lawful}
-use Rattle.safety.proofs.Sending.{same_is_equal, same_itself}
-use Rattle.safety.proofs.Soundness.{Legal, reached_sound, sends_legal}
+use Rattle.protocol.proofs.Sending.{same_is_equal, same_itself}
+use Rattle.protocol.proofs.Soundness.{Legal, reached_sound, sends_legal}
 use Rattle.message_log.specs.Layout.{legal_capacity, well_formed, capacity_of, count_of}
 use Rattle.message_log.specs.Log.{Stored, entries, same_stored, stored_as, added, appended, add_unless, read_as, cleared}
 use Rattle.message_log.specs.Log as log

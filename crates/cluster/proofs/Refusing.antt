@@ -4,14 +4,14 @@ use Rattle.std.specs.List.{AllByRecursion}
 use Rattle.std.proofs.lemmas.List.{get_or-set_same, set_past}
 use Rattle.std.proofs.lemmas.Bool.{cond-true, cond-false, cases_lt}
 use Rattle.protocol.specs.declared.change.Change.{Change}
-use Rattle.protocol.specs.declared.effect.Effect.{Effect}
+use Rattle.protocol.specs.Decisions.{Effect}
 use Rattle.protocol.specs.declared.message.Message.{Message}
 use Rattle.protocol.specs.declared.message.Message.TheVariants.{Join, Publication, Response, Commit}
-use Rattle.protocol.specs.declared.node_state.NodeState.{NodeState}
+use Rattle.protocol.specs.Decisions.{Node}
 use Rattle.protocol.specs.declared.refusal.Refusal.{Refusal}
 use Rattle.protocol.specs.declared.refusal.Refusal.TheVariants.{OtherDestination, WriteUnfinished}
 use Rattle.protocol.specs.Changes.{changed}
-use Rattle.protocol.specs.Messages.{addressed}
+use Rattle.protocol.specs.Messages.{is_for}
 use Rattle.protocol.specs.Refusals.{refusal_number}
 use Rattle.protocol.specs.Decisions.{Setup, Test, checked, deliver_decided, join_tests, publication_tests, response_tests, commit_tests, bootstrap_tests, start_join_tests, publish_tests}
 use Rattle.message_log.specs.declared.fault.Fault.{Fault}
@@ -51,15 +51,15 @@ early_fault UnknownKind = lit< tt
 early_fault InvalidBody = lit< tt
 early_fault LogFull = lit< tt
 
-early_delivery : (setup : Setup ℕ) (node : NodeState ℕ) (n : ℕ) (m : Message ℕ) → EarlyIf (deliver_decided setup node n m)
+early_delivery : (setup : Setup ℕ) (node : Node ℕ) (n : ℕ) (m : Message ℕ) → EarlyIf (deliver_decided setup node n m)
 early_delivery setup node n (Join m) = early_checked (join_tests setup node m) (lit< tt, (lit< tt, (lit< tt, (lit< tt, tt)))) _ tt
 early_delivery setup node n (Publication m) = early_checked (publication_tests setup node m) (lit< tt, (lit< tt, tt)) _ tt
 early_delivery setup node n (Response m) = early_checked (response_tests setup node m) (lit< tt, (lit< tt, (lit< tt, tt))) _ tt
 early_delivery setup node n (Commit m) = early_checked (commit_tests setup node m) (lit< tt, (lit< tt, (lit< tt, (lit< tt, tt)))) _ tt
 
-early_entry : (setup : Setup ℕ) (node : NodeState ℕ) (n : ℕ) (r : Result (Message ℕ) Refusal) → EarlyIf r → EarlyIf (on_entry setup node n r)
+early_entry : (setup : Setup ℕ) (node : Node ℕ) (n : ℕ) (r : Result (Message ℕ) Refusal) → EarlyIf r → EarlyIf (on_entry setup node n r)
 early_entry setup node n (Err why) h = h
-early_entry setup node n (Ok m) h = go (addressed n m)
+early_entry setup node n (Ok m) h = go (is_for n m)
   where
     go : (b : Bool) → EarlyIf (cond b (deliver_decided setup node n m) (Err OtherDestination))
     go true = early_delivery setup node n m

@@ -7,8 +7,8 @@ use Rattle.protocol.specs.Decisions.{Setup}
 use Rattle.protocol.specs.Calls.{entries_of}
 use Rattle.protocol.specs.History.{Committed, OneHistory}
 use Rattle.protocol.specs.Runs.{Lawful}
-use Rattle.safety.proofs.Safety.{one_history_is_kept}
-use Rattle.safety.proofs.Unsplit.{unsplit}
+use Rattle.protocol.proofs.Safety.{one_history_is_kept}
+use Rattle.protocol.proofs.Unsplit.{unsplit}
 use Rattle.message_log.specs.Log.{cleared}
 use Rattle.cluster.specs.declared.call.Call.{Call}
 use Rattle.cluster.specs.States.{State, opened}

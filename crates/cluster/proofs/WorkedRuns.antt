@@ -4,7 +4,7 @@ use Rattle.quorum.specs.Sets.{member}
 use Rattle.quorum.specs.Rules.{weight_below}
 use Rattle.quorum.specs.WorkedCases.{HeavyNodeDecides}
 use Rattle.protocol.specs.declared.change.Change.{Change}
-use Rattle.protocol.specs.declared.effect.Effect.{Effect}
+use Rattle.protocol.specs.Decisions.{Effect}
 use Rattle.protocol.specs.declared.refusal.Refusal.{Refusal}
 use Rattle.protocol.specs.declared.refusal.Refusal.TheVariants.{NoJoinQuorum, WriteUnfinished}
 use Rattle.protocol.specs.Changes.{changed}

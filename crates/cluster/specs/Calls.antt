@@ -3,7 +3,7 @@ use Rattle.std.specs.Prelude.{◌≡◌, ℕ, min, Bool, true, cond, not, List, 
 use Rattle.quorum.specs.declared.node_set.NodeSet.{NodeSet}
 use Rattle.quorum.specs.Sets.{legal_configuration}
 use Rattle.protocol.specs.declared.change.Change.{Change}
-use Rattle.protocol.specs.declared.effect.Effect.{Effect}
+use Rattle.protocol.specs.Decisions.{Effect}
 use Rattle.protocol.specs.declared.message.Message.{Message}
 use Rattle.protocol.specs.declared.refusal.Refusal.{Refusal}
 use Rattle.protocol.specs.declared.refusal.Refusal.TheVariants.{

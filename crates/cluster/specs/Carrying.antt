@@ -2,7 +2,7 @@
 -- these.
 use Rattle.std.specs.Prelude.{◌≡◌, ℕ, Bool, cond, Option}
 use Rattle.protocol.specs.declared.change.Change.{Change}
-use Rattle.protocol.specs.declared.effect.Effect.{Effect}
+use Rattle.protocol.specs.Decisions.{Effect}
 use Rattle.protocol.specs.declared.volatile.Volatile.{Volatile}
 use Rattle.protocol.specs.Decisions.{Setup, restarted}
 use Rattle.store.specs.declared.power.Power.{Power}

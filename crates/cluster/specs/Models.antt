@@ -50,13 +50,16 @@ outcome answer state = record { answer = answer; world = world_of state }
 pub record Modelled (setup : Setup ℕ) (before : State) (call : Call) (answer : Answer) (after : State) : Type 0 where
   -- the answer and the next state are those of the definition
   pub step : Step setup before call answer after
-  -- the call is taken exactly when the model's action is enabled, the log has room and the write finishes; then the action
+  -- the answer, and what is denoted after, are those of the call over messages, from what is denoted before
+  pub agrees : Sensible before call
+      → messages.called setup (world_of before) (call_of call) (fate_of before call step.keeps_new) ≡ outcome answer after
+  -- that call is taken exactly when the model's action is enabled, the log has room and the write finishes; then the action
   -- leads from the state that is denoted before to the one that is denoted after
-  pub steps : Sensible before call → (versions : ℕ → ℕ) (descendant : List model.Descendant)
-      → StepIsTheModels setup (world_of before) (call_of call) (fate_of before call step.keeps_new) versions descendant (outcome answer after)
-  -- a write that is cut is the model's restart, or its action with the message lost and then a restart
-  pub cuts : Sensible before call → (versions : ℕ → ℕ) (descendant : List model.Descendant)
-      → CutIsTheModels setup (world_of before) (call_of call) (fate_of before call step.keeps_new) versions descendant (outcome answer after)
+  pub steps : (versions : ℕ → ℕ) (descendant : List model.Descendant)
+      → StepIsTheModels setup (world_of before) (call_of call) (fate_of before call step.keeps_new) versions descendant
+  -- a write of it that is cut is the model's restart, or its action with the message lost and then a restart
+  pub cuts : (versions : ℕ → ℕ) (descendant : List model.Descendant)
+      → CutIsTheModels setup (world_of before) (call_of call) (fate_of before call step.keeps_new) versions descendant
   -- a call that is neither taken nor cut leaves what is denoted as it was
   pub otherwise : Sensible before call → (versions : ℕ → ℕ) (descendant : List model.Descendant)
       → Taken setup (outcome answer after)

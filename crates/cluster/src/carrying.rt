@@ -1,5 +1,6 @@
 //! Carrying out what a node has decided.
 ghost use Rattle.std.specs.Prelude.{◌≡◌, ◌<◌, [], ◌∷◌, Some, None};
+ghost use Rattle.protocol.specs.Meanings.{effect_meant};
 ghost use Rattle.node.specs.Setups.{meant};
 ghost use Rattle.cluster.specs.States.{node_at};
 ghost use Rattle.cluster.specs.Calls.{count, told, place_for, log_with, AllFit};
@@ -61,7 +62,7 @@ impl<B: Bank, R: VotingRule> Cluster<B, R> {
         requires known { node < count (meant R.quorum self.old.setup) (alone B.meaning self.old) }
         requires silent { effect.now.message ≡ None }
         ensures setup { self.new.setup ≡ self.old.setup }
-        ensures carried { Carried (meant R.quorum self.old.setup) (alone B.meaning self.old) node effect.now power result (alone B.meaning self.new) }
+        ensures carried { Carried (meant R.quorum self.old.setup) (alone B.meaning self.old) node (effect_meant effect.now) power result (alone B.meaning self.new) }
     {
         if self.settle(node, effect.change, effect.volatile, power) {
             Ok(None)
@@ -81,7 +82,7 @@ impl<B: Bank, R: VotingRule> Cluster<B, R> {
     ) -> Answer
         requires { node < count (meant R.quorum self.old.setup) (alone B.meaning self.old) }
         ensures setup { self.new.setup ≡ self.old.setup }
-        ensures carried { Carried (meant R.quorum self.old.setup) (with_log B.meaning self.old log.old) node effect.now power result (with_log B.meaning self.new log.new) }
+        ensures carried { Carried (meant R.quorum self.old.setup) (with_log B.meaning self.old log.old) node (effect_meant effect.now) power result (with_log B.meaning self.new log.new) }
     {
         let entry = find_place(log, &effect.message)?;
         if !self.settle(node, effect.change, effect.volatile, power) {

@@ -1,6 +1,7 @@
 //! The nodes of a cluster, one by one.
 ghost use Rattle.std.specs.Prelude.{◌≡◌, ◌<◌, [], ◌∷◌, Ok, Err, OnOk};
 ghost use Rattle.protocol.specs.Decisions.{checked, decided};
+ghost use Rattle.protocol.specs.Meanings.{node_result_meant};
 ghost use Rattle.node.specs.Setups.{meant};
 ghost use Rattle.cluster.specs.States.{node_at};
 ghost use Rattle.cluster.specs.Calls.{count, shut_test, node_test, configuration_test};
@@ -56,7 +57,7 @@ impl<B: Bank, R: VotingRule> Cluster<B, R> {
     pub fn node(&mut self, node: u8) -> Result<NodeState, Refusal>
         ensures setup { self.new.setup ≡ self.old.setup }
         ensures same { alone B.meaning self.new ≡ alone B.meaning self.old }
-        ensures value { result ≡ decided (shut_test (meant R.quorum self.old.setup) (alone B.meaning self.old) ∷ node_test (meant R.quorum self.old.setup) (alone B.meaning self.old) node ∷ []) (node_at (alone B.meaning self.old) node) }
+        ensures value { node_result_meant result ≡ decided (shut_test (meant R.quorum self.old.setup) (alone B.meaning self.old) ∷ node_test (meant R.quorum self.old.setup) (alone B.meaning self.old) node ∷ []) (node_at (alone B.meaning self.old) node) }
         ensures known { OnOk result (node < count (meant R.quorum self.old.setup) (alone B.meaning self.old)) }
     {
         self.check_open()?;

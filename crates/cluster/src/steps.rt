@@ -1,6 +1,7 @@
 //! The five calls: what the node that is called decides, and carrying it out.
 ghost use Rattle.std.specs.Prelude.{◌≡◌, ◌<◌, OnOk};
 ghost use Rattle.protocol.specs.Decisions.{decided};
+ghost use Rattle.protocol.specs.Meanings.{decision_meant, node_result_meant};
 ghost use Rattle.node.specs.Setups.{meant};
 ghost use Rattle.cluster.specs.declared.call.Call.TheVariants.{Bootstrap as CallBootstrap, StartJoin as CallStartJoin, Publish as CallPublish, Deliver as CallDeliver, Restart as CallRestart};
 ghost use Rattle.cluster.specs.States.{node_at};
@@ -57,7 +58,7 @@ impl<B: Bank, R: VotingRule> Cluster<B, R> {
     ) -> Result<Effect, Refusal>
         ensures setup { self.new.setup ≡ self.old.setup }
         ensures same { alone B.meaning self.new ≡ alone B.meaning self.old }
-        ensures value { result ≡ decision (meant R.quorum self.old.setup) (with_log B.meaning self.old log.now) (CallStartJoin node leader term no_power) }
+        ensures value { decision_meant result ≡ decision (meant R.quorum self.old.setup) (with_log B.meaning self.old log.now) (CallStartJoin node leader term no_power) }
         ensures known { OnOk result (node < count (meant R.quorum self.old.setup) (alone B.meaning self.old)) }
     {
         let state = self.node(node)?;
@@ -95,7 +96,7 @@ impl<B: Bank, R: VotingRule> Cluster<B, R> {
     ) -> Result<Effect, Refusal>
         ensures setup { self.new.setup ≡ self.old.setup }
         ensures same { alone B.meaning self.new ≡ alone B.meaning self.old }
-        ensures value { result ≡ decision (meant R.quorum self.old.setup) (with_log B.meaning self.old log.now) (CallPublish node term version value configuration) }
+        ensures value { decision_meant result ≡ decision (meant R.quorum self.old.setup) (with_log B.meaning self.old log.now) (CallPublish node term version value configuration) }
         ensures known { OnOk result (node < count (meant R.quorum self.old.setup) (alone B.meaning self.old)) }
     {
         let state = self.may_publish(node, configuration, log)?;
@@ -112,7 +113,7 @@ impl<B: Bank, R: VotingRule> Cluster<B, R> {
     ) -> Result<NodeState, Refusal>
         ensures setup { self.new.setup ≡ self.old.setup }
         ensures same { alone B.meaning self.new ≡ alone B.meaning self.old }
-        ensures value { result ≡ decided (publish_input_tests (meant R.quorum self.old.setup) (with_log B.meaning self.old log.now) node configuration) (node_at (alone B.meaning self.old) node) }
+        ensures value { node_result_meant result ≡ decided (publish_input_tests (meant R.quorum self.old.setup) (with_log B.meaning self.old log.now) node configuration) (node_at (alone B.meaning self.old) node) }
         ensures known { OnOk result (node < count (meant R.quorum self.old.setup) (alone B.meaning self.old)) }
     {
         let state = self.node(node)?;

@@ -83,7 +83,7 @@ module _ {V : Type 0} {N : ℕ} {node : Node V} where
   accepted_legal (unset e b) some = absurd (some e)
   accepted_legal (legal both) some = both
 
-  won_legal : Configured N node → node.volatile.election_won ≡ true → LegalRecord N node.kept
+  pub won_legal : Configured N node → node.volatile.election_won ≡ true → LegalRecord N node.kept
   won_legal (unset e b) won = absurd (both_ways node.volatile.election_won b.lost won)
   won_legal (legal both) won = both
 

@@ -1,7 +1,8 @@
 use Rattle.std.proofs.Common.{ℕ, Err, ap, ◌∙◌}
 use Rattle.std.proofs.lemmas.Result.{err_from_is_err_and, IfOk-from_err}
-use Rattle.protocol.specs.declared.node_state.NodeState.{NodeState}
+use Rattle.protocol.specs.Decisions.{Node}
 use Rattle.protocol.specs.Decisions.{decided, publish_tests, publish_effect}
+use Rattle.protocol.specs.Meanings.{node_meant, decision_meant}
 use Rattle.node.specs.Setups.{meant}
 use Rattle.cluster.specs.Calls.{publish_input_tests}
 use Rattle.cluster.specs.States.{node_at}
@@ -15,13 +16,13 @@ returns g c = record {
   same = c.may_publish.ensures.same;
   value = c.publish.ensures
       ∙ ap (λ setup.
-      decided (publish_tests (meant g.R.VotingRule.quorum setup) c.in_ok-state.state c.args.term c.args.version c.args.configuration)
-      (publish_effect (meant g.R.VotingRule.quorum setup) c.in_ok-state.state c.args.node c.args.term c.args.version c.args.value c.args.configuration))
+      decided (publish_tests (meant g.R.VotingRule.quorum setup) (node_meant c.in_ok-state.state) c.args.term c.args.version c.args.configuration)
+      (publish_effect (meant g.R.VotingRule.quorum setup) (node_meant c.in_ok-state.state) c.args.node c.args.term c.args.version c.args.value c.args.configuration))
       c.may_publish.ensures.setup
       ∙ passed_on
       (publish_input_tests (meant g.R.VotingRule.quorum c.args.self.now.setup) (with_log g.B.Bank.meaning c.args.self.now c.args.log.now) c.args.node c.args.configuration)
-      _ c.in_ok-state.state
-      (λ (state : NodeState ℕ).
+      _ (node_meant c.in_ok-state.state)
+      (λ (state : Node ℕ).
       decided (publish_tests (meant g.R.VotingRule.quorum c.args.self.now.setup) state c.args.term c.args.version c.args.configuration)
       (publish_effect (meant g.R.VotingRule.quorum c.args.self.now.setup) state c.args.node c.args.term c.args.version c.args.value c.args.configuration))
       c.in_ok-state.ensures.value;
@@ -34,7 +35,7 @@ returns-in_err-state g c =
     record {
       setup = c.may_publish.ensures.setup;
       same = c.may_publish.ensures.same;
-      value = p.1 ∙ ap Err p.2
+      value = ap decision_meant (p.1 ∙ ap Err p.2)
           ∙ refused_on
           (publish_input_tests (meant g.R.VotingRule.quorum c.args.self.now.setup) (with_log g.B.Bank.meaning c.args.self.now c.args.log.now) c.args.node c.args.configuration)
           (node_at (alone g.B.Bank.meaning c.args.self.now) c.args.node) _ _ c.in_err-state.ensures.value;
