@@ -12,7 +12,7 @@ use Rattle.protocol.specs.Positions.{position}
 use Rattle.protocol.specs.Calls as messages
 use Rattle.protocol.specs.Calls.{Entry, entries_of, same_message, is_message}
 use Rattle.protocol.specs.Messages.{legal_message}
-use Rattle.protocol.specs.Runs as messages-run
+use Rattle.protocol.specs.Runs as messages_run
 use Rattle.protocol.specs.Runs.{Lawful}
 use Rattle.protocol.proofs.Sending.{same_is_equal, same_itself}
 use Rattle.protocol.proofs.Soundness.{Legal, reached_sound, sends_legal}
@@ -88,7 +88,7 @@ module _ (setup : Setup ℕ) (lawful : Lawful setup) where
     pub places : length state.volatile ≡ most_nodes
     pub few : length state.stores ≤ most_nodes
     pub log : Written (length state.stores) state.log
-    pub reached : messages-run.Reached setup (world_of state)
+    pub reached : messages_run.Reached setup (world_of state)
 
   -- a cluster that is shut, with a cleared log
   pub record Shut (state : State) : Type 0 where
@@ -172,8 +172,8 @@ module _ (setup : Setup ℕ) (lawful : Lawful setup) where
         places = frame.volatile ∙ g.places;
         few = omega (arith, frame.stores, g.few);
         log = subst (λ (k : ℕ). Written k after.log) (sym frame.stores) (log_after after.log frame.log);
-        reached = subst (messages-run.Reached setup) (ap (λ (o : messages.Outcome ℕ). o.world) (step_agrees before after call answer g s))
-            (messages-run.by_call g.reached (call_of call) (fate_of before call s.keeps_new));
+        reached = subst (messages_run.Reached setup) (ap (λ (o : messages.Outcome ℕ). o.world) (step_agrees before after call answer g s))
+            (messages_run.by_call g.reached (call_of call) (fate_of before call s.keeps_new));
       }
     where
       log_after : (l : List ℕ) → LogAfter setup before (message_in (decision setup before call)) l → Written (length before.stores) l
@@ -204,7 +204,7 @@ module _ (setup : Setup ℕ) (lawful : Lawful setup) where
             places = refl;
             few = o.few;
             log = written-cleared (length stores) capacity c;
-            reached = messages-run.at_opening (opened_on_messages setup stores capacity c o);
+            reached = messages_run.at_opening (opened_on_messages setup stores capacity c o);
           })
       go (Err why) e =
           inr (record { why = why; is_shut = ap (refusal_in setup) e; log = written-cleared (length stores) capacity c; empty = refl })

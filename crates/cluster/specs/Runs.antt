@@ -6,7 +6,7 @@ use Rattle.protocol.specs.Decisions.{Setup}
 use Rattle.protocol.specs.Calls as messages
 use Rattle.protocol.specs.Calls.{entries_of}
 use Rattle.protocol.specs.History.{OneHistory}
-use Rattle.protocol.specs.Runs as messages-run
+use Rattle.protocol.specs.Runs as messages_run
 use Rattle.protocol.specs.Runs.{Lawful}
 use Rattle.message_log.specs.Layout.{legal_capacity, capacity_of}
 use Rattle.message_log.specs.Log.{cleared}
@@ -56,7 +56,7 @@ pub record NoRunSplitsTheLog : Type 0 where
 -- its answer and all that it leaves, is that step on messages.
 pub record BytesAreMessages : Type 0 where
   pub reached : (setup : Setup ℕ) → Lawful setup → (state : State) → Reached setup state → state.shut ≡ None
-      → messages-run.Reached setup (world_of state)
+      → messages_run.Reached setup (world_of state)
   pub step : (setup : Setup ℕ) → Lawful setup → (before after : State) (call : Call) (answer : Answer)
       → Reached setup before → before.shut ≡ None → (step : Step setup before call answer after)
       → messages.called setup (world_of before) (call_of call) (fate_of before call step.keeps_new)
