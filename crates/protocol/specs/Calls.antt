@@ -98,7 +98,7 @@ module _ {V : Type 0} (setup : Setup V) where
   is_message m (Err why) = false
 
   module _ (world : World V) where
-    -- the node with this number; what stands for one that is not there is never looked at
+    -- how many nodes there are
     abbrev pub nodes_count : ℕ
     nodes_count = length world.nodes
 
