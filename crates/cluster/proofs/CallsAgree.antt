@@ -10,7 +10,7 @@ use Rattle.quorum.specs.Sets.{legal_configuration}
 use Rattle.protocol.specs.declared.change.Change.{Change}
 use Rattle.protocol.specs.Decisions.{Effect}
 use Rattle.protocol.specs.declared.message.Message.{Message}
-use Rattle.protocol.specs.Decisions.{Node}
+use Rattle.protocol.specs.Decisions.{NodeState}
 use Rattle.protocol.specs.declared.record.Record.{Record}
 use Rattle.protocol.specs.declared.refusal.Refusal.{Refusal}
 use Rattle.protocol.specs.declared.refusal.Refusal.TheVariants.{UnknownNode, IllegalConfiguration, WriteUnfinished}
@@ -155,7 +155,7 @@ module _ (setup : Setup ℕ) (state : State) where
     abbrev store : Meaning
     store = store_at state.stores n
 
-    abbrev node : Node ℕ
+    abbrev node : NodeState ℕ
     node = node_at state n
 
     abbrev fate : Fate

@@ -9,7 +9,7 @@ use Rattle.protocol.specs.Decisions.{Effect}
 use Rattle.protocol.specs.declared.kind.Kind.{Kind}
 use Rattle.protocol.specs.declared.message.Message.{Message}
 use Rattle.protocol.specs.declared.message.Message.TheVariants as message
-use Rattle.protocol.specs.Decisions.{Node}
+use Rattle.protocol.specs.Decisions.{NodeState}
 use Rattle.protocol.specs.declared.refusal.Refusal.{Refusal}
 use Rattle.protocol.specs.Decisions.{
   Setup,
@@ -196,7 +196,7 @@ module _ (setup : Setup ℕ) (values : (x y : ℕ) → Decides (setup.same_value
         there false k = impossible cc
 
     -- what a delivery sends
-    delivered : (n : ℕ) → ltb n N ≡ true → IsLog state.log → (node : Node ℕ) (x : Message ℕ) → legal_message N x ≡ true
+    delivered : (n : ℕ) → ltb n N ≡ true → IsLog state.log → (node : NodeState ℕ) (x : Message ℕ) → legal_message N x ≡ true
         → (effect : Effect ℕ) → deliver_decided setup node n x ≡ Ok effect → (m : Message ℕ) → effect.message ≡ Some m → Due m
     delivered n known log node (message.Join j) l effect d m h =
         let same = (taken (join_tests setup node j) (join_effect setup node j) effect d).1 in
@@ -221,7 +221,7 @@ module _ (setup : Setup ℕ) (values : (x y : ℕ) → Decides (setup.same_value
         let q : None ≡ Some m = ap (λ (y : Effect ℕ). y.message) same ∙ h in
         impossible cc
 
-    on_entry_sends : (n : ℕ) → ltb n N ≡ true → IsLog state.log → (node : Node ℕ) (r : Result (Message ℕ) Refusal)
+    on_entry_sends : (n : ℕ) → ltb n N ≡ true → IsLog state.log → (node : NodeState ℕ) (r : Result (Message ℕ) Refusal)
         → ((x : Message ℕ) → r ≡ Ok x → legal_message N x ≡ true)
         → (effect : Effect ℕ) → on_entry setup node n r ≡ Ok effect → (m : Message ℕ) → effect.message ≡ Some m → Due m
     on_entry_sends n known log node (Err why) legal effect d m h = impossible cc

@@ -4,7 +4,7 @@ use Rattle.std.proofs.lemmas.List.{length-map}
 use Rattle.std.proofs.lemmas.Bool.{and_parts, eqb-true, ltb-false, not-false}
 use Rattle.quorum.specs.declared.node_set.NodeSet.{NodeSet}
 use Rattle.quorum.specs.Sets.{legal_configuration}
-use Rattle.protocol.specs.Decisions.{Node}
+use Rattle.protocol.specs.Decisions.{NodeState}
 use Rattle.protocol.specs.declared.record.Record.{Record}
 use Rattle.protocol.specs.Decisions.{Setup, is_empty}
 use Rattle.protocol.specs.Calls.{fresh_node}
@@ -49,7 +49,7 @@ module _ (setup : Setup ℕ) where
   fresh_nodes [] h = refl
   fresh_nodes (s ∷ stores) h =
       let p = and_parts (fresh setup s.content) (all_fresh setup stores) h in
-      ap₂ (λ (r : Record ℕ) (l : List (Node ℕ)). record { kept = r; volatile = blank } ∷ l) (fresh_record s.content p.0) (fresh_nodes stores p.1)
+      ap₂ (λ (r : Record ℕ) (l : List (NodeState ℕ)). record { kept = r; volatile = blank } ∷ l) (fresh_record s.content p.0) (fresh_nodes stores p.1)
 
   -- what an opening that is not refused says
   pub record Open (stores : List Meaning) : Type 0 where

@@ -7,7 +7,7 @@ use Rattle.protocol.specs.declared.change.Change.{Change}
 use Rattle.protocol.specs.Decisions.{Effect}
 use Rattle.protocol.specs.declared.message.Message.{Message}
 use Rattle.protocol.specs.declared.message.Message.TheVariants.{Join, Publication, Response, Commit}
-use Rattle.protocol.specs.Decisions.{Node}
+use Rattle.protocol.specs.Decisions.{NodeState}
 use Rattle.protocol.specs.declared.refusal.Refusal.{Refusal}
 use Rattle.protocol.specs.declared.refusal.Refusal.TheVariants.{OtherDestination, WriteUnfinished}
 use Rattle.protocol.specs.Changes.{changed}
@@ -51,13 +51,13 @@ early_fault UnknownKind = lit< tt
 early_fault InvalidBody = lit< tt
 early_fault LogFull = lit< tt
 
-early_delivery : (setup : Setup ℕ) (node : Node ℕ) (n : ℕ) (m : Message ℕ) → EarlyIf (deliver_decided setup node n m)
+early_delivery : (setup : Setup ℕ) (node : NodeState ℕ) (n : ℕ) (m : Message ℕ) → EarlyIf (deliver_decided setup node n m)
 early_delivery setup node n (Join m) = early_checked (join_tests setup node m) (lit< tt, (lit< tt, (lit< tt, (lit< tt, tt)))) _ tt
 early_delivery setup node n (Publication m) = early_checked (publication_tests setup node m) (lit< tt, (lit< tt, tt)) _ tt
 early_delivery setup node n (Response m) = early_checked (response_tests setup node m) (lit< tt, (lit< tt, (lit< tt, tt))) _ tt
 early_delivery setup node n (Commit m) = early_checked (commit_tests setup node m) (lit< tt, (lit< tt, (lit< tt, (lit< tt, tt)))) _ tt
 
-early_entry : (setup : Setup ℕ) (node : Node ℕ) (n : ℕ) (r : Result (Message ℕ) Refusal) → EarlyIf r → EarlyIf (on_entry setup node n r)
+early_entry : (setup : Setup ℕ) (node : NodeState ℕ) (n : ℕ) (r : Result (Message ℕ) Refusal) → EarlyIf r → EarlyIf (on_entry setup node n r)
 early_entry setup node n (Err why) h = h
 early_entry setup node n (Ok m) h = go (is_for n m)
   where

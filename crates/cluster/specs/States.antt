@@ -1,7 +1,7 @@
 -- A cluster with the log that its calls are lent, and how a cluster is opened.
 use Rattle.std.specs.Prelude.{ℕ, Bool, true, false, not, ◌&&◌, List, [], ◌∷◌, length, replicate, Some, None, Ok, Err, Option, Result, ◌==◌, nat_lt, slice_index_or}
 use Rattle.quorum.specs.Sets.{nobody, legal_configuration}
-use Rattle.protocol.specs.Decisions.{Node}
+use Rattle.protocol.specs.Decisions.{NodeState}
 use Rattle.protocol.specs.declared.record.Record.{Record}
 use Rattle.protocol.specs.declared.refusal.Refusal.{Refusal}
 use Rattle.protocol.specs.declared.refusal.Refusal.TheVariants.{UnsoundStore, TooManyStores, IllegalInitialConfiguration, StoreNotFresh}
@@ -30,7 +30,7 @@ blank = record {
 }
 
 -- node n: the record in its store, and its volatile values
-abbrev pub node_at : State → ℕ → Node ℕ
+abbrev pub node_at : State → ℕ → NodeState ℕ
 node_at state n = record { kept = (store_at state.stores n).content; volatile = slice_index_or state.volatile n blank }
 
 -- a cluster has at most this many nodes, and has a place for the volatile values of each

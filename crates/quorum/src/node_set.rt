@@ -8,7 +8,7 @@ use std::fmt;
 pub const MAX_NODES: u8 = 16;
 
 /// A set of nodes: bit `n` of `bits` says whether node `n` is in it.
-#[derive(Clone, Copy, PartialEq, Eq, Debug)]
+#[derive(Clone, Copy, Default, PartialEq, Eq, Debug)]
 pub struct NodeSet {
     bits: u16,
 }

@@ -1,6 +1,6 @@
 use Rattle.std.proofs.Common.{ℕ, Err, ap, ◌∙◌}
 use Rattle.std.proofs.lemmas.Result.{err_from_is_err_and, IfOk-from_err}
-use Rattle.protocol.specs.Decisions.{Node}
+use Rattle.protocol.specs.Decisions.{NodeState}
 use Rattle.protocol.specs.Decisions.{decided, publish_tests, publish_effect}
 use Rattle.protocol.specs.Meanings.{node_meant, decision_meant}
 use Rattle.node.specs.Setups.{meant}
@@ -22,7 +22,7 @@ returns g c = record {
       ∙ passed_on
       (publish_input_tests (meant g.R.VotingRule.quorum c.args.self.now.setup) (with_log g.B.Bank.meaning c.args.self.now c.args.log.now) c.args.node c.args.configuration)
       _ (node_meant c.in_ok-state.state)
-      (λ (state : Node ℕ).
+      (λ (state : NodeState ℕ).
       decided (publish_tests (meant g.R.VotingRule.quorum c.args.self.now.setup) state c.args.term c.args.version c.args.configuration)
       (publish_effect (meant g.R.VotingRule.quorum c.args.self.now.setup) state c.args.node c.args.term c.args.version c.args.value c.args.configuration))
       c.in_ok-state.ensures.value;
