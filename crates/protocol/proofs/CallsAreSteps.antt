@@ -84,7 +84,7 @@ module _ {V : Type 0} (setup : Setup V) (values : (x y : V) → Decides (setup.s
 
   abbrev pub state_of : List (NodeState V) → List (Message V) → step.State V
   state_of nodes log = record {
-    node = λ k. record { «record» = (node_of nodes k).kept; volatile = (node_of nodes k).volatile };
+    node = node_of nodes;
     log = log;
   }
 
@@ -110,8 +110,8 @@ module _ {V : Type 0} (setup : Setup V) (values : (x y : V) → Decides (setup.s
     moves : (n : ℕ) → n < length world.nodes → (x : NodeState V) (log' : List (Message V))
         → step.Moves (state_of world.nodes log) (state_of (set world.nodes n x) log') n x.kept x.volatile
     moves n known x log' = record {
-      now = ap (λ (y : NodeState V). record { «record» = y.kept; volatile = y.volatile }) (get_or-set_same world.nodes n x (fresh_node setup 0) known);
-      others = λ k ne. ap (λ (y : NodeState V). record { «record» = y.kept; volatile = y.volatile }) (get_or-set_other world.nodes n k x (fresh_node setup 0) ne);
+      now = get_or-set_same world.nodes n x (fresh_node setup 0) known;
+      others = λ k ne. get_or-set_other world.nodes n k x (fresh_node setup 0) ne;
     }
 
     -- what each decision owes: its step where its effect is carried out, and its write where that is cut

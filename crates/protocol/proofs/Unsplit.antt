@@ -27,7 +27,7 @@ module _ {V : Type 0} (setup : Setup V) (lawful : Lawful setup) where
   fresh_at (v ∷ versions) zero = refl
   fresh_at (v ∷ versions) (suc n) = fresh_at versions n
 
-  fresh : (v : ℕ) → step.FreshNode {V = V} (record { «record» = (fresh_node setup v).kept; volatile = (fresh_node setup v).volatile })
+  fresh : (v : ℕ) → step.FreshNode {V = V} (fresh_node setup v)
   fresh v = record { no_term = refl; no_accepted_term = refl; no_configuration = refl; no_committed_configuration = refl; no_memory = refl }
 
   pub stepped : (world : World V) → Reached setup world → Stepped world
@@ -36,7 +36,7 @@ module _ {V : Type 0} (setup : Setup V) (lawful : Lawful setup) where
     readable = o.cleared;
     reached = step.start (record {
       nodes = λ n.
-          subst (λ (x : NodeState V). step.FreshNode {V = V} (record { «record» = x.kept; volatile = x.volatile }))
+          subst (λ (x : NodeState V). step.FreshNode {V = V} x)
           (sym (ap (λ (l : List (NodeState V)). get_or l n (fresh_node setup 0)) o.nodes ∙ fresh_at o.versions n))
           (fresh (get_or o.versions n 0));
       no_messages = refl;

@@ -1,9 +1,8 @@
 -- What a node decides, for each call and each message that is delivered to it: a list of tests, each with its refusal, and
 -- an effect. The first test that holds refuses; if none does, the effect follows.
-use Rattle.std.specs.Prelude.{ℕ, Bool, true, false, cond, not, ◌&&◌, ◌||◌, List, [], ◌∷◌, Some, None, Ok, Err, Option, Result, ◌==◌, nat_le, nat_lt}
+use Rattle.std.specs.Prelude.{ℕ, Bool, true, false, cond, not, ◌&&◌, ◌||◌, List, [], ◌∷◌, Some, None, Ok, Err, Result, ◌==◌, nat_le, nat_lt}
 use Rattle.quorum.specs.declared.node_set.NodeSet.{NodeSet}
 use Rattle.quorum.specs.Sets.{nobody, with_node}
-use Rattle.protocol.specs.declared.change.Change.{Change}
 use Rattle.protocol.specs.declared.change.Change.TheVariants as change
 -- what a node does where nothing refuses: its change, its next volatile values, and its message
 pub use Rattle.protocol.specs.declared.effect.Effect.{Effect}
