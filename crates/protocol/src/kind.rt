@@ -1,5 +1,5 @@
 //! The four kinds of message and their numbers.
-ghost use Rattle.std.specs.Prelude.{◌≡◌};
+ghost use Rattle.std.specs.Prelude.{◌≡◌, ◌++◌, Some, codes, decimal};
 ghost use Rattle.protocol.specs.Kinds.{kind_number, kind_with_number};
 
 use std::error::Error;
@@ -51,8 +51,11 @@ impl TryFrom<u8> for Kind {
 }
 
 impl fmt::Display for UnknownKind {
+    ghost output = { λ unknown. Some (decimal unknown.number ++ codes " is the number of no kind of message") };
+
     fn fmt<W: fmt::Write>(&self, f: &mut fmt::Formatter<W>) -> fmt::Result {
-        write!(f, "{} is the number of no kind of message", self.number)
+        let number = self.number;
+        write!(f, "{number} is the number of no kind of message")
     }
 }
 

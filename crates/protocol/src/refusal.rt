@@ -1,6 +1,9 @@
 //! Why a call is refused.
-ghost use Rattle.std.specs.Prelude.{◌≡◌};
+ghost use Rattle.std.specs.Prelude.{◌≡◌, Some, decimal};
 ghost use Rattle.protocol.specs.Refusals.{refusal_number};
+
+use std::error::Error;
+use std::fmt;
 
 /// The reasons, each with the number by which it is known.
 #[derive(Clone, Copy, PartialEq, Eq, Debug)]
@@ -45,3 +48,15 @@ impl From<Refusal> for u8 {
         refusal as u8
     }
 }
+
+/// A refusal is shown by its number.
+impl fmt::Display for Refusal {
+    ghost output = { λ refusal. Some (decimal (refusal_number refusal)) };
+
+    fn fmt<W: fmt::Write>(&self, f: &mut fmt::Formatter<W>) -> fmt::Result {
+        let number = u8::from(*self);
+        write!(f, "{number}")
+    }
+}
+
+impl Error for Refusal {}
