@@ -10,6 +10,8 @@ use crate::rule::VotingRule;
 #[derive(Clone, Copy, Debug)]
 pub struct Majority;
 
+// Not one impl over weights for both rules: it would overlap with the rules of other crates, and
+// this one counts bits at once.
 impl VotingRule for Majority {
     ghost quorum = { λ _. majority };
 
