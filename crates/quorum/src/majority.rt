@@ -10,8 +10,8 @@ use crate::rule::VotingRule;
 #[derive(Clone, Copy, Debug)]
 pub struct Majority;
 
-// Not one impl over weights for both rules: it would overlap with the rules of other crates, and
-// this one counts bits at once.
+// `Weighted` has the same shape. One impl for both would need a third trait, of weights, and be as
+// long as the two.
 impl VotingRule for Majority {
     ghost quorum = { λ _. majority };
 
