@@ -10,6 +10,8 @@ use crate::rule::VotingRule;
 #[derive(Clone, Copy, Debug)]
 pub struct Majority;
 
+// `Weighted` has the same shape. One impl for both would need a third trait, of weights, and be as
+// long as the two.
 impl VotingRule for Majority {
     ghost quorum = { λ _. majority };
 

@@ -33,9 +33,9 @@ impl Weighted {
         ensures bound { result ≤ 240 }
     {
         let mut total = 0;
-        for node in 0..MAX_NODES {
+        for (node, &weight) in (0..MAX_NODES).zip(&self.weights) {
             if set.contains(node) {
-                total += u16::from(taken_as(self.weights[usize::from(node)]));
+                total += u16::from(taken_as(weight));
             }
         }
         total
