@@ -1,5 +1,5 @@
 -- A log that is the encoding of a list of messages: what it reads as, and one message more.
-use Rattle.std.proofs.Common.{◌≡◌, ℕ, zero, suc, ◌<◌, ◌≤◌, Bool, true, false, cond, eqb, ltb, List, [], ◌∷◌, ◌++◌, map, length, get_or, is_some, Some, None, Ok, Err, Option, Result, sym, refl, ap, ◌∙◌, ap₂, ⊎_elim, arith}
+use Rattle.std.proofs.Common.{◌≡◌, ℕ, zero, suc, ◌<◌, ◌≤◌, Bool, true, false, cond, ◌==◌, nat_lt, List, [], ◌∷◌, ◌++◌, map, length, get_or, is_some, Some, None, Ok, Err, Option, Result, sym, refl, ap, ◌∙◌, ap₂, ⊎_elim, arith}
 use Rattle.std.specs.List.{slice_get, AllByRecursion}
 use Rattle.std.specs.Option.{option_map}
 use Rattle.std.proofs.lemmas.List.FromFn.{length-map-range_with_len, get_or-map-range_with_len}
@@ -70,7 +70,7 @@ stored_one_to_one a b fa fb h =
 
 same_stored_is_equal : (x y : Stored) → same_stored x y ≡ true → x ≡ y
 same_stored_is_equal x y h =
-    let p = and_parts (eqb x.kind y.kind) _ h in
+    let p = and_parts (x.kind == y.kind) _ h in
     ap₂ (λ (k : ℕ) (b : List ℕ). record { kind = k; body = b }) (eqb-true _ _ p.0) ((bytes_eq-Decides x.body y.body).0 p.1)
 
 -- Finding a message among those of a log by its bytes is finding it in the list, whatever test of the list tells equality.
@@ -133,14 +133,14 @@ all_read n (m ∷ messages) f h = ap₂ ◌∷◌ (read_stored n m f.0 h.0) (all
 
 -- the message in an entry, and that there is none past the last
 module _ (n c : ℕ) (messages : List (Message ℕ)) (bytes : List ℕ) (E : Encodes c messages bytes) where
-  looked_up : (e : ℕ) (found : Option Stored) → cond (ltb e (count_of bytes)) (Some (stored_at bytes e)) None ≡ found
+  looked_up : (e : ℕ) (found : Option Stored) → cond (nat_lt e (count_of bytes)) (Some (stored_at bytes e)) None ≡ found
       → message_at n bytes e ≡ found_as n found
   looked_up e found h =
       ap (λ (r : Result (Option Stored) Fault). elim r as (λ _. Result (Message ℕ) Refusal) [ Ok o ↦ found_as n o | Err fault ↦ Err (refusal_of fault) ])
       (cond-true (well_formed bytes) _ _ E.log ∙ ap Ok h)
 
   pub no_message_at : (e : ℕ) → length messages ≤ e → message_at n bytes e ≡ Err NoSuchEntry
-  no_message_at e l = looked_up e None (cond-false (ltb e (count_of bytes)) _ _ (le-ltb _ _ (omega (arith, E.many))))
+  no_message_at e l = looked_up e None (cond-false (nat_lt e (count_of bytes)) _ _ (le-ltb _ _ (omega (arith, E.many))))
 
   stored_there : (e : ℕ) → e < length messages → (d : Message ℕ) → stored_at bytes e ≡ stored_as (get_or messages e d)
   stored_there e l d =
@@ -162,7 +162,7 @@ module _ (n c : ℕ) (messages : List (Message ℕ)) (bytes : List ℕ) (E : Enc
           let s : Some (get_or messages e m) ≡ Some m = sym q ∙ h in
           let is : get_or messages e m ≡ m = cc in
           looked_up e (Some (stored_as m))
-          (cond-true (ltb e (count_of bytes)) _ _ (lt-ltb _ _ (omega (arith, E.many)))
+          (cond-true (nat_lt e (count_of bytes)) _ _ (lt-ltb _ _ (omega (arith, E.many)))
           ∙ ap Some (stored_there e l m ∙ ap stored_as is))
           ∙ read_stored n m f g
 
