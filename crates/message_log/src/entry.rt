@@ -58,6 +58,7 @@ impl<'a> Entry<'a> {
     }
 
     /// The entry's kind.
+    // An enum of its own, and so a match of its own beside that of `Message::kind`.
     pub fn kind(&self) -> Kind
         ensures { result ≡ entry_kind self.now }
     {

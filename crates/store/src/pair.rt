@@ -32,6 +32,7 @@ impl<L: Bank, R: Bank> Bank for Pair<L, R> {
         self.left.count().saturating_add(self.right.count())
     }
 
+    // The three calls by number differ in what they call: a closure for each side would be longer.
     fn is_sound(&self, at: u16) -> Option<bool> {
         match past(self.left.count(), at) {
             None => self.left.is_sound(at),

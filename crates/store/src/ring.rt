@@ -51,6 +51,8 @@ impl<'a> Store for RingStore<'a> {
         write_ring(self.bytes, change, power)
     }
 
+    // These three repeat the trait's bodies: a provided one is proved from the trait's clauses, which
+    // say nothing of bytes.
     fn set_term(&mut self, term: Term, power: Power) -> bool
         ensures { Rewritten self.old (ChangeTerm term) power result self.new }
     {

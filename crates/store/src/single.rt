@@ -21,6 +21,7 @@ impl<S: Store> Bank for Single<S> {
         1
     }
 
+    // The three calls by number differ in what they call: a closure for each would be as long.
     fn is_sound(&self, at: u16) -> Option<bool> {
         match at {
             0 => Some(self.store.is_sound()),

@@ -11,6 +11,7 @@ pub(crate) const TERM: usize = 4;
 pub(crate) const STATE: usize = 16;
 
 /// The record that a slot's term and state stand for.
+// No `From`, here and below: a slot has its term and its state in two places.
 pub(crate) fn decode(term: &[u8; TERM], state: &[u8; STATE]) -> Record
     ensures { result ≡ record_of term.now state.now }
 {
