@@ -1,13 +1,12 @@
 -- A log with one more entry, and an empty one.
-use Rattle.std.proofs.Common.{◌≡◌, ℕ, zero, suc, ◌+◌, ◌-◌, ◌*◌, ◌<◌, ◌≤◌, Bool, true, false, ◌==◌, nat_lt, nat_le, List, [], ◌∷◌, ◌++◌, map, length, get_or, take, drop, replicate, is_some, IfOk, Some, None, Ok, Err, Option, Result, sym, refl, ap, ◌∙◌, subst, ap₂, inl, inr, arith}
+use Rattle.std.proofs.Common.{◌≡◌, ℕ, zero, suc, ◌+◌, ◌-◌, ◌*◌, ◌<◌, ◌≤◌, Bool, true, false, ◌==◌, nat_lt, nat_le, List, [], ◌∷◌, ◌++◌, map, length, get_or, take, drop, replicate, is_some, Some, None, Ok, Err, Option, sym, refl, ap, ◌∙◌, subst, ap₂, inl, inr, arith}
 use Rattle.std.specs.List.{range_with_len}
 use Rattle.std.specs.Option.{option_map}
 use Rattle.std.proofs.lemmas.List.FromFn.{map-range_with_len_more, length-map-range_with_len}
 use Rattle.std.proofs.lemmas.List.{get_or-append_right, get_or-replicate, length-replicate}
 use Rattle.std.proofs.lemmas.Slice.Eq.{bytes_eq-Decides}
 use Rattle.std.proofs.lemmas.Bool.{and_parts, and_from, leb-true, le-leb, eqb-true, eq-eqb, ltb-true, cond-true, cond-false}
-use Rattle.message_log.specs.declared.fault.Fault.{Fault}
-use Rattle.message_log.specs.declared.fault.Fault.TheVariants.{IllFormedLog, LogFull}
+use Rattle.message_log.specs.declared.fault.Fault.TheVariants.{LogFull}
 use Rattle.message_log.specs.declared.header.Sizes.{Sizes}
 use Rattle.message_log.specs.Layout.{put, in_two, capacity_of, count_of, log_length, legal_capacity, well_formed, kind_place, body_place}
 use Rattle.protocol.specs.Positions.{position}
@@ -181,16 +180,6 @@ module _ (bytes : List ℕ) (x : Stored) (log : well_formed bytes ≡ true) (roo
       in
       subst (λ (b : List ℕ). Holds bytes b x m) (sym after_is) holds
 
--- x was there
-pub holds_found : (bytes : List ℕ) (x : Stored) (e : ℕ) → well_formed bytes ≡ true
-    → position (same_stored x) (entries bytes) ≡ Some e → Holds bytes bytes x e
-holds_found bytes x e log there = record {
-  log = log;
-  room = refl;
-  list = sym (cond-true (is_some (position (same_stored x) (entries bytes))) _ _ (ap is_some there));
-  lowest = there;
-}
-
 -- the lowest place of a test in a list is within it
 place_within : {X : Type 0} (test : X → Bool) (xs : List X) (i : ℕ) → position test xs ≡ Some i → i < length xs
 unfolding position
@@ -221,9 +210,11 @@ opened bytes s h = go (well_formed bytes) refl
 pub record AddsNew (bytes : List ℕ) (x : Stored) (s : Sizes) : Type 0 where
   pub room : s.count < s.capacity
   pub outcome : append_to bytes x ≡ record { answer = Ok s.count; bytes = added bytes x }
+  pub holds : Holds bytes (added bytes x) x s.count
 
-pub adds_new : (bytes : List ℕ) (x : Stored) (s : Sizes) → sizes_of bytes ≡ Ok s → Ok s.count ≡ (append_entry bytes x).answer → AddsNew bytes x s
-adds_new bytes x s is-log h =
+pub adds_new : (bytes : List ℕ) (x : Stored) (s : Sizes) → length x.body ≡ 26 → sizes_of bytes ≡ Ok s
+    → Ok s.count ≡ (append_entry bytes x).answer → AddsNew bytes x s
+adds_new bytes x s whole is-log h =
     go (opened bytes s is-log) (position (same_stored x) (entries bytes)) refl (nat_lt (count_of bytes) (capacity_of bytes)) refl
   where
     go : Opened bytes s → (o : Option ℕ) → position (same_stored x) (entries bytes) ≡ o → (b : Bool) → nat_lt (count_of bytes) (capacity_of bytes) ≡ b → AddsNew bytes x s
@@ -238,6 +229,7 @@ adds_new bytes x s is-log h =
       outcome = cond-true (well_formed bytes) _ _ o.log ∙ ap (λ (f : Option ℕ). add_unless f bytes x) p
           ∙ cond-true (nat_lt (count_of bytes) (capacity_of bytes)) _ _ q
           ∙ ap (λ (n : ℕ). record { answer = Ok n; bytes = added bytes x }) (sym o.count);
+      holds = rw o.count (holds_added bytes x o.log (ltb-true _ _ q) whole p);
     }
     go o None p false q =
         let same : Ok s.count ≡ Err LogFull =
@@ -246,33 +238,6 @@ adds_new bytes x s is-log h =
         in
         let z : ◌≡◌ {A = ℕ} 0 1 = cc in
         absurd (omega arith)
-
--- what adding an entry answers and leaves
-pub holds_answered : (bytes : List ℕ) (x : Stored) → length x.body ≡ 26 → (r : Result ℕ Fault) (after : List ℕ)
-    → r ≡ (append_to bytes x).answer → after ≡ (append_to bytes x).bytes → IfOk r (λ e. Holds bytes after x e)
-holds_answered bytes x whole r after answer left =
-    rw (answer, left) (go (well_formed bytes) refl (position (same_stored x) (entries bytes)) refl (nat_lt (count_of bytes) (capacity_of bytes)) refl)
-  where
-    told : (o : Outcome ℕ) → append_to bytes x ≡ o → IfOk o.answer (λ e. Holds bytes o.bytes x e)
-        → IfOk (append_to bytes x).answer (λ e. Holds bytes (append_to bytes x).bytes x e)
-    told o e h = subst (λ (a : Outcome ℕ). IfOk a.answer (λ e. Holds bytes a.bytes x e)) (sym e) h
-
-    go : (b : Bool) → well_formed bytes ≡ b → (o : Option ℕ) → position (same_stored x) (entries bytes) ≡ o
-        → (l : Bool) → nat_lt (count_of bytes) (capacity_of bytes) ≡ l
-        → IfOk (append_to bytes x).answer (λ e. Holds bytes (append_to bytes x).bytes x e)
-    go false f o p l q = told (record { answer = Err IllFormedLog; bytes = bytes }) (cond-false (well_formed bytes) _ _ f) tt
-    go true f (Some e) p l q =
-        told (record { answer = Ok e; bytes = bytes })
-        (cond-true (well_formed bytes) _ _ f ∙ ap (λ (o : Option ℕ). add_unless o bytes x) p)
-        (holds_found bytes x e f p)
-    go true f None p true q =
-        told (record { answer = Ok (count_of bytes); bytes = added bytes x })
-        (cond-true (well_formed bytes) _ _ f ∙ ap (λ (o : Option ℕ). add_unless o bytes x) p ∙ cond-true (nat_lt (count_of bytes) (capacity_of bytes)) _ _ q)
-        (holds_added bytes x f (ltb-true _ _ q) whole p)
-    go true f None p false q =
-        told (record { answer = Err LogFull; bytes = bytes })
-        (cond-true (well_formed bytes) _ _ f ∙ ap (λ (o : Option ℕ). add_unless o bytes x) p ∙ cond-false (nat_lt (count_of bytes) (capacity_of bytes)) _ _ q)
-        tt
 
 -- a cleared log
 zero_byte : (k j : ℕ) → 2 ≤ j → j < 4 + 27 * k → get_or (cleared k) j 0 ≡ 0
