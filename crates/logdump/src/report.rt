@@ -8,15 +8,10 @@ use std::io;
 
 // The sizes of a log and a line for each entry; or the refusal of bytes that are no log.
 pub fn print_log(rt: &HostRuntime, bytes: &[u8], nodes: u8) -> io::Result<()> {
-    let sizes = match Sizes::of(bytes) {
+    let Sizes { count, capacity } = match Sizes::of(bytes) {
         Ok(sizes) => sizes,
-        Err(fault) => {
-            let number = Refusal::from(fault).number();
-            return println!(rt; "no {number}");
-        }
+        Err(fault) => return println!(rt; "no {}", Refusal::from(fault)),
     };
-    let count = sizes.count;
-    let capacity = sizes.capacity;
     println!(rt; "log {count} of {capacity}")?;
     for number in 0..count {
         print_entry(rt, number, entry_message(bytes, number, nodes))?;
@@ -27,10 +22,7 @@ pub fn print_log(rt: &HostRuntime, bytes: &[u8], nodes: u8) -> io::Result<()> {
 fn print_entry(rt: &HostRuntime, number: u16, read: Result<Message, Refusal>) -> io::Result<()> {
     match read {
         Ok(message) => println!(rt; "{number}: {message}"),
-        Err(refusal) => {
-            let reason = refusal.number();
-            println!(rt; "{number}: no {reason}")
-        }
+        Err(refusal) => println!(rt; "{number}: no {refusal}"),
     }
 }
 
