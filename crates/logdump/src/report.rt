@@ -10,7 +10,7 @@ use std::io;
 pub fn print_log(rt: &HostRuntime, bytes: &[u8], nodes: u8) -> io::Result<()> {
     let Sizes { count, capacity } = match Sizes::of(bytes) {
         Ok(sizes) => sizes,
-        Err(fault) => return println!(rt; "no {}", Refusal::from(fault)),
+        Err(fault) => return println!(rt; "no {fault}"),
     };
     println!(rt; "log {count} of {capacity}")?;
     for number in 0..count {
