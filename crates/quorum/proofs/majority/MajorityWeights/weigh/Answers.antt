@@ -2,9 +2,10 @@
 use Rattle.std.proofs.Common.{◌^◌, ◌<◌, arith}
 use Rattle.std.proofs.lemmas.Nat.{ones-le}
 use Rattle.quorum.specs.WeightsLemmas.{count_bits}
-use Rattle.quorum.proofs.majority.size.Goals as goal
+use Rattle.quorum.proofs.majority.MajorityWeights.weigh.Goals as goal
 
 pub returns : goal.returns
 returns c =
     let small : c.args.set.bits < 2 ^ 16 = omega arith in
-    record { value = rw c.bits.ensures (count_bits 16 c.args.set small); bound = ones-le 16 c.bits.result (omega arith) }
+    let sixteen = ones-le 16 c.bits.result (omega arith) in
+    record { value = rw c.bits.ensures (count_bits 16 c.args.set small); bound = omega arith }

@@ -3,7 +3,7 @@ use Rattle.std.proofs.Common.{rules, arith}
 use Rattle.std.proofs.lemmas.List.{drop_more}
 use Rattle.quorum.specs.Rules.{weight_below, by_table}
 use Rattle.quorum.specs.WeightsLemmas.{weight_of_one_more}
-use Rattle.quorum.proofs.weighted.Weighted.weight.Goals as goal
+use Rattle.quorum.proofs.weighted.WeightedWeights.weigh.Goals as goal
 
 pub loop-node-init : goal.loop-node-init
 unfolding weight_below

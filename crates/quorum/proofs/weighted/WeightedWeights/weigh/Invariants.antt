@@ -1,7 +1,7 @@
 -- The total so far is the weight of the nodes below the next one, each of them 15 at most.
 use Rattle.std.proofs.Common.{◌≡◌, ◌*◌, ◌≤◌, drop}
 use Rattle.quorum.specs.Rules.{weight_below, by_table}
-use Rattle.quorum.proofs.weighted.Weighted.weight.Given as goal
+use Rattle.quorum.proofs.weighted.WeightedWeights.weigh.Given as goal
 
 abbrev pub invariant-loop-node : goal.invariant-loop-node
 invariant-loop-node l =
