@@ -2,7 +2,7 @@
 use Rattle.std.proofs.Common.{◌≡◌, ℕ, zero, suc, ◌<◌, List, [], ◌∷◌, length, get_or, set, replicate, Some, refl, ap, ◌∙◌, arith}
 use Rattle.std.specs.List.{slice_get}
 use Rattle.std.proofs.lemmas.List.{set-get_or}
-use Rattle.protocol.specs.Decisions.{NodeState}
+use Rattle.protocol.specs.declared.node_state.NodeState.{NodeState}
 use Rattle.protocol.specs.declared.volatile.Volatile.{Volatile}
 use Rattle.store.specs.Stores.{Meaning}
 use Rattle.store.specs.Banks.{absent, store_at}

@@ -1,7 +1,7 @@
 -- A state, whose log is bytes, and the world of nodes and messages that it denotes. The definitions of the calls on
 -- messages, their theorem on safety and the public model speak of such worlds.
 use Rattle.std.specs.Prelude.{ℕ, Bool, ◌&&◌, List, [], ◌∷◌, map, length}
-use Rattle.protocol.specs.Decisions.{NodeState}
+use Rattle.protocol.specs.declared.node_state.NodeState.{NodeState}
 use Rattle.protocol.specs.declared.volatile.Volatile.{Volatile}
 use Rattle.protocol.specs.Calls as messages
 use Rattle.protocol.specs.Calls.{World, Fate, Entry}

@@ -3,7 +3,9 @@ use Rattle.std.specs.Prelude.{ℕ, cond, Ok, Err, Result}
 use Rattle.protocol.specs.declared.message.Message.{Message}
 use Rattle.protocol.specs.declared.refusal.Refusal.{Refusal}
 use Rattle.protocol.specs.declared.refusal.Refusal.TheVariants.{OtherDestination}
-use Rattle.protocol.specs.Decisions.{NodeState, Setup as Fixed, Effect, deliver_decided}
+use Rattle.protocol.specs.declared.effect.Effect.{Effect}
+use Rattle.protocol.specs.declared.node_state.NodeState.{NodeState}
+use Rattle.protocol.specs.Decisions.{Setup as Fixed, deliver_decided}
 use Rattle.protocol.specs.Messages.{is_for}
 
 -- what node n decides on an entry, as it was read: one that cannot be read refuses, and one that is for another node
