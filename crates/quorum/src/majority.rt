@@ -14,6 +14,7 @@ impl Weights for Majority {
 
     ghost positive = { λ _. Measure.one_each_positive };
 
+    #[tactic(auto, using(crate::specs::WeightsLemmas::counted, crate::specs::WeightsLemmas::counted_at_most))]
     fn weigh(&self, set: NodeSet) -> u16 {
         set.bits().count_ones() as u16
     }
