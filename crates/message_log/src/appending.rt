@@ -25,6 +25,7 @@ pub fn append(bytes: &mut [u8], message: &Message) -> Result<u16, Fault>
     let log = Log::open(bytes)?;
     let sizes = log.sizes;
     let place = log.place(&entry)?;
+    // The place of a new entry is the count.
     if place == sizes.count {
         write(bytes, sizes, &entry);
     }

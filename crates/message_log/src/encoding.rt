@@ -6,6 +6,7 @@ use crate::fields::Fields;
 use protocol::{EVERYONE, Message};
 
 /// The 26 bytes of a message.
+// By name, beside the conversions that it is made of: it says what comes back from the bytes, too.
 #[tactic(auto, using(crate::proofs::RoundTrip::reads_back))]
 pub fn encode(message: &Message) -> [u8; 26]
     ensures bytes { result ≡ body_of message.now }

@@ -58,7 +58,8 @@ impl<'a> Entry<'a> {
     }
 
     /// The entry's kind.
-    // An enum of its own, and so a match of its own beside that of `Message::kind`.
+    // The cases are public, for callers to match on; so this is a match of its own beside that of
+    // `Message::kind`.
     pub fn kind(&self) -> Kind
         ensures { result ≡ entry_kind self.now }
     {
@@ -90,7 +91,7 @@ impl<'a> Entry<'a> {
     }
 
     /// The message that the entry is.
-    // `Message::from(entry)` is no plainer than `entry.message()`.
+    // No `From`: an entry is asked for its kind, its fields and its message alike.
     pub fn message(&self) -> Message
         ensures { result ≡ entry_message self.now }
     {

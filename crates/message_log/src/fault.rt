@@ -39,7 +39,7 @@ impl From<UnknownKind> for Fault {
 
     ghost from_gives = { λ _ fault. fault ≡ UnknownKind };
 
-    fn from(_unknown: UnknownKind) -> Self {
+    fn from(_: UnknownKind) -> Self {
         Self::UnknownKind
     }
 }

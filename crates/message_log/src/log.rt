@@ -29,7 +29,7 @@ impl<'a> Log<'a> {
 
     // The entry of this number.
     pub(crate) fn entry(&self, number: u16) -> StoredEntry<'a>
-        requires { number < count_of self.now.bytes.now }
+        requires { number < self.now.sizes.count }
         ensures { shows result ≡ stored_at self.now.bytes.now number }
     {
         let at = body_place(self.sizes.capacity, number);
@@ -43,7 +43,7 @@ impl<'a> Log<'a> {
     fn find(&self, entry: &StoredEntry<'_>) -> Option<u16>
         ensures { result ≡ position (same_stored (shows entry.now)) (entries self.now.bytes.now) }
     {
-        (0..self.sizes.count).find(|number| *entry == self.entry(*number))
+        (0..self.sizes.count).find(|&number| *entry == self.entry(number))
     }
 
     // The place of an entry: that of an equal one, or else the next, if there is room.

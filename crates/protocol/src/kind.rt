@@ -37,7 +37,7 @@ impl From<Kind> for u8 {
 impl TryFrom<u8> for Kind {
     type Error = UnknownKind;
 
-    ghost try_from_gives = { λ number kind. kind ≡ kind_with_number number };
+    ghost try_from_gives = { λ number answer. answer ≡ kind_with_number number };
 
     fn try_from(number: u8) -> Result<Kind, UnknownKind> {
         match number {

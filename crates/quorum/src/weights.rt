@@ -8,6 +8,7 @@ use crate::rule::VotingRule;
 
 /// A rule by which each node has a weight.
 pub trait Weights {
+    /// What each node weighs.
     ghost weight: { Self → ℕ → ℕ };
 
     /// The weight of a set: 16 nodes of 15 at most.
@@ -15,6 +16,7 @@ pub trait Weights {
         ensures value { result ≡ weight_of (weight self.now) set }
         ensures bound { result ≤ 240 };
 
+    /// No node weighs nothing.
     ghost positive: { (rule : Self) (n : ℕ) → 0 < weight rule n };
 }
 

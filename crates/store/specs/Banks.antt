@@ -35,5 +35,5 @@ pub record BankWritten (before : List Meaning) (at : ℕ) (change : Change ℕ) 
 
 -- The number in the right bank of the store `at` of a pair, whose left bank has `left` stores: those
 -- come first, and none says that it is one of them.
-abbrev pub past_left : (left at : ℕ) → Option ℕ
-past_left left at = cond (nat_lt at left) None (Some (at - left))
+abbrev pub number_on_right : (left at : ℕ) → Option ℕ
+number_on_right left at = cond (nat_lt at left) None (Some (at - left))

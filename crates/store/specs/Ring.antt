@@ -1,10 +1,10 @@
 -- The ring store: slots for records in lent bytes, filled in turn.
-use Rattle.std.specs.Prelude.{◌≡◌, ℕ, ◌≤◌, ◌+◌, ◌*◌, ◌%◌, Bool, false, cond, ◌&&◌, ◌||◌, List, length, Some, None, Option, ◌==◌, nat_le, nat_lt, slice_index, slice_set}
+use Rattle.std.specs.Prelude.{◌≡◌, ℕ, ◌≤◌, ◌+◌, ◌*◌, Bool, false, cond, ◌&&◌, List, length, Some, None, Option, ◌==◌, nat_le, nat_lt, slice_index, slice_set}
 use Rattle.protocol.specs.declared.record.Record.{Record}
 use Rattle.protocol.specs.declared.change.Change.{Change}
 use Rattle.store.specs.declared.power.Power.{Power}
 use Rattle.protocol.specs.Changes.{changed}
-use Rattle.store.specs.Overwriting.{part, spent, overwritten_at}
+use Rattle.store.specs.Overwriting.{part, spent, overwritten_at, lands}
 use Rattle.store.specs.Slots.{term_size, state_size, term_bytes, state_bytes, record_of}
 use Rattle.store.specs.Stores.{Meaning, zeros, by_last_write, Written}
 use Rattle.store.specs.declared.ring.RingStore.{RingStore}
@@ -67,10 +67,10 @@ ring bytes = record {
   may_keep = by_last_write ring_size;
 }
 
--- whether the slot number lands: where its write is caught, it does with an odd residue
+-- whether the slot number lands, if its turn comes
 abbrev pub number_lands : Option Power → Bool
 number_lands None = false
-number_lands (Some power) = nat_le 1 power.budget || power.residue % 2 == 1
+number_lands (Some power) = lands power
 
 -- the slot after this one; after the last comes slot 0
 abbrev pub next_slot : (slots slot : ℕ) → ℕ

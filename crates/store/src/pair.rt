@@ -1,7 +1,7 @@
 //! Two banks side by side.
 ghost use Rattle.std.specs.Prelude.{◌≡◌, ◌++◌};
 ghost use Rattle.std.proofs.ByRecursion.{All-append};
-ghost use Rattle.store.specs.Banks.{past_left};
+ghost use Rattle.store.specs.Banks.{number_on_right};
 ghost use Rattle.store.specs.Stores.{Lawful};
 
 use crate::bank::Bank;
@@ -17,8 +17,8 @@ pub struct Pair<L, R> {
 
 /// The number in the right bank of the store `at` of a pair, or `None` where that is one of the
 /// left bank's `left` stores.
-fn past(left: u32, at: u16) -> Option<u16>
-    ensures { result ≡ past_left left at }
+fn number_on_right(left: u32, at: u16) -> Option<u16>
+    ensures { result ≡ number_on_right left at }
 {
     u32::from(at).checked_sub(left).map(|at| at as u16)
 }
@@ -34,7 +34,7 @@ impl<L: Bank, R: Bank> Bank for Pair<L, R> {
 
     // The three calls by number differ in what they call: a closure for each side would be longer.
     fn is_sound(&self, at: u16) -> Option<bool> {
-        match past(self.left.count(), at) {
+        match number_on_right(self.left.count(), at) {
             None => self.left.is_sound(at),
             Some(at) => self.right.is_sound(at),
         }
@@ -46,7 +46,7 @@ impl<L: Bank, R: Bank> Bank for Pair<L, R> {
     }
 
     fn read(&mut self, at: u16) -> Option<Record> {
-        match past(self.left.count(), at) {
+        match number_on_right(self.left.count(), at) {
             None => self.left.read(at),
             Some(at) => self.right.read(at),
         }
@@ -54,7 +54,7 @@ impl<L: Bank, R: Bank> Bank for Pair<L, R> {
 
     #[tactic(auto, using(crate::proofs::Sides::written_left, crate::proofs::Sides::written_right))]
     fn write(&mut self, at: u16, change: Change, power: Power) -> Option<bool> {
-        match past(self.left.count(), at) {
+        match number_on_right(self.left.count(), at) {
             None => self.left.write(at, change, power),
             Some(at) => self.right.write(at, change, power),
         }

@@ -1,4 +1,4 @@
-//! Bytes that are written one by one, under a power that may cut them short.
+//! Parts of lent bytes: reading one, and overwriting one under a power that may cut that short.
 ghost use Rattle.std.specs.Prelude.{◌≡◌, ◌+◌, ◌≤◌, length, Some};
 ghost use Rattle.store.specs.Overwriting.{part, spent, overwritten, overwritten_at};
 

@@ -20,7 +20,7 @@ const LEAST_SLOTS: u8 = 2;
 
 const MOST_SLOTS: u8 = 16;
 
-/// Bytes that have the form of a ring, and the two numbers that they start with.
+/// Bytes that have the form of a ring, and two numbers of their header.
 #[derive(Clone, Copy)]
 pub(crate) struct Ring<'a> {
     bytes: &'a [u8],
@@ -86,6 +86,7 @@ impl<'a> Ring<'a> {
 }
 
 /// A slot of a ring, and where its term and its state stand.
+// That it lies in the bytes is a clause, and no field: they are written while the slot is used.
 #[derive(Clone, Copy)]
 struct Slot {
     number: u8,
@@ -103,7 +104,7 @@ impl Slot {
     }
 
     /// Writes a record to the slot, first its term and then its state, and last makes the slot the
-    /// current one.
+    /// current one. Answers whether that finished.
     fn write(self, bytes: &mut [u8], new: Record, power: Power) -> bool
         requires { LiesIn bytes.old self }
         ensures after { bytes.new ≡ turned self.number (left_for_number power) (filled self.number new power bytes.old) }
@@ -127,11 +128,10 @@ fn turn(bytes: &mut [u8], slot: u8, power: Option<Power>) -> bool
     let Some(power) = power else {
         return false;
     };
-    let finished = power.budget >= 1;
-    if finished || power.residue % 2 == 1 {
+    if power.lands() {
         bytes[CURRENT] = slot;
     }
-    finished
+    power.budget >= 1
 }
 
 /// Writes the changed record to the next slot.
