@@ -29,7 +29,8 @@ impl<B: Bank, R: VotingRule> Cluster<B, R> {
     }
 }
 
-// Whether a cluster can be opened over the bank, or why not.
+// Whether a cluster can be opened over the bank, or why not. Each of the three functions here is lent
+// the bank to read it, and says that it stays: a struct round the bank would have to say it too.
 fn examine<B: Bank, R: VotingRule>(setup: &Setup<R>, bank: &mut B) -> Result<(), Refusal>
     ensures same { B.meaning bank.new ≡ B.meaning bank.old }
     ensures value { result ≡ opening (meant R.quorum setup.now) (B.meaning bank.old) }

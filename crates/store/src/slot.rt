@@ -44,6 +44,8 @@ pub(crate) fn decode(term: &[u8; TERM], state: &[u8; STATE]) -> Record
 }
 
 /// The state of a record: all but its current term.
+// `back` goes up from here to the ring: that the numbers fit their bytes is known of code's numbers
+// alone.
 pub(crate) fn encode_state(content: Record) -> [u8; STATE]
     ensures bytes { result ≡ state_bytes content }
     ensures back { ReadsBack content }
