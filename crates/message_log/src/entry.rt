@@ -20,6 +20,7 @@ pub enum Entry<'a> {
 impl<'a> Entry<'a> {
     /// The entry with this kind and this body, in a cluster of `nodes` nodes; or what is wrong
     /// with it.
+    // The kind is a byte as it lies in a log: to read it is what this is for.
     #[tactic(auto, using(crate::proofs::RoundTrip::writes_back))]
     pub fn read(kind: u8, body: &'a [u8], nodes: u8) -> Result<Entry<'a>, Fault>
         ensures answer { Answered (read_message nodes kind body.now) body.now result }
