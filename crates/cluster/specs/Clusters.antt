@@ -20,8 +20,9 @@ with_log meaning nodes log = record { shut = nodes.shut; stores = meaning nodes.
 abbrev pub alone : {B : Type 0} → (B → List Meaning) → Nodes B → State
 alone meaning nodes = with_log meaning nodes []
 
--- The step of a call, where `quorum` says what the rule of a cluster means: what was fixed at the opening stays as it was, and
--- the answer, what each store means, the volatile values of every node and every byte of the log are the definition's.
+-- The step of a call, where `quorum` says what the rule of a cluster means and `meaning` what its bank means: what was fixed at
+-- the opening stays as it was, and the answer, what each store means, the volatile values of every node and every byte of the
+-- log are the definition's. `Called` has the two again, and what follows from them.
 pub record Stepped {B R : Type 0} (quorum : R → NodeSet → NodeSet → Bool) (meaning : B → List Meaning)
     (before : Cluster B R) (log : List ℕ) (call : Call) (answer : Answer) (after : Cluster B R) (log' : List ℕ) : Type 0 where
   pub fixed : after.setup ≡ before.setup

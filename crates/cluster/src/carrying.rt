@@ -13,8 +13,10 @@ use store::{Bank, Power};
 pub type Answer = Result<Option<u16>, Refusal>;
 
 impl<B: Bank> Nodes<B> {
-    // Carries out an effect that sends nothing. What a node settles is named in three functions: a
-    // struct of it would be made and taken apart in one line.
+    // `node`, `effect` and `power` stand in three functions: a struct of them would be built in one
+    // line and taken apart in the next.
+
+    // Carries out an effect that sends nothing.
     pub(crate) fn settle_only(&mut self, node: u8, effect: &Effect, power: Power) -> Answer
         requires { effect.now.message ≡ None }
         ensures { Carried (alone B.meaning self.old) node effect.now power result (alone B.meaning self.new) }

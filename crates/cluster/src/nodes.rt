@@ -11,12 +11,11 @@ use protocol::{Effect, NodeState, Refusal, Volatile};
 use quorum::{MAX_NODES, NodeSet};
 use store::{Bank, Power};
 
-/// The nodes of a cluster, if it is open: each has a store of the bank, and a place for its
-/// volatile values.
+/// The nodes of a cluster: node `n` has store `n` of the bank, and place `n` of the volatile values.
 #[derive(Drop)]
 pub struct Nodes<B> {
     pub(crate) bank: B,
-    // An array with a place for each node: memory is fixed, since a box has no heap.
+    // An array with a place for each node: memory is fixed, since what this runs on has no heap.
     pub(crate) volatile: [Volatile; 16],
     // Why the opening was refused, if it was.
     pub(crate) shut: Option<Refusal>,
@@ -62,7 +61,8 @@ impl<B: Bank> Nodes<B> {
         }
     }
 
-    // A node as it is, if the cluster is open and has it.
+    // A node as it is, if the cluster is open and has it. A store is read by `&mut`, so each function
+    // that reads one says that nothing changes.
     pub(crate) fn find(&mut self, node: u8) -> Result<NodeState, Refusal>
         ensures same { alone B.meaning self.new ≡ alone B.meaning self.old }
         ensures value { result ≡ decided (shut_test (alone B.meaning self.old) ∷ node_test (alone B.meaning self.old) node ∷ []) (node_at (alone B.meaning self.old) node) }
@@ -107,7 +107,7 @@ impl<B: Bank> Nodes<B> {
 fn put(volatile: &mut [Volatile], node: u8, next: Volatile)
     ensures { volatile.new ≡ slice_set volatile.old node next }
 {
-    // By its index: after `get_mut` of a slice a proof knows no element.
+    // By its index: `get_mut` was tried, and the proof did not close, since it then knows no element.
     let at = usize::from(node);
     if at < volatile.len() {
         volatile[at] = next;

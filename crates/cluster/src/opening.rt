@@ -29,8 +29,10 @@ impl<B: Bank, R: VotingRule> Cluster<B, R> {
     }
 }
 
-// Whether a cluster can be opened over the bank, or why not. Each of the three functions here is lent
-// the bank to read it, and says that it stays: a struct round the bank would have to say it too.
+// The three functions that follow are lent the bank to read it, and say that it stays: a struct
+// around the bank would have to say so too.
+
+// Whether a cluster can be opened over the bank, or why not.
 fn examine<B: Bank, R: VotingRule>(setup: &Setup<R>, bank: &mut B) -> Result<(), Refusal>
     ensures same { B.meaning bank.new ≡ B.meaning bank.old }
     ensures value { result ≡ opening (meant R.quorum setup.now) (B.meaning bank.old) }
@@ -57,8 +59,8 @@ fn are_fresh<B: Bank, R: VotingRule>(setup: &Setup<R>, bank: &mut B, count: u16)
     ensures same { B.meaning bank.new ≡ B.meaning bank.old }
     ensures value { result ≡ all_fresh (meant R.quorum setup.now) (B.meaning bank.old) }
 {
-    // Not by `all`: of a closure that reads the bank, a proof knows that it ran, and no longer
-    // what the bank means.
+    // `all` was tried, and the proof did not close: of a closure that reads the bank it knows that
+    // it ran, and no longer what the bank means.
     for at in 0..count {
         if !has_fresh(setup, bank, at) {
             return false;

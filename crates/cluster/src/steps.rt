@@ -1,5 +1,6 @@
 //! The five calls: what the node that is called decides, and carrying it out. Each step promises
-//! that it is the definition's; the public call adds what follows from that.
+//! that it is the definition's (`Stepped`), so that what follows from that, which the public call
+//! adds, is proved once.
 ghost use Rattle.std.specs.Prelude.{◌≡◌, [], ◌∷◌};
 ghost use Rattle.protocol.specs.Decisions.{checked, decided, publish_tests, publish_effect};
 ghost use Rattle.node.specs.Setups.{meant};
@@ -67,7 +68,8 @@ impl<B: Bank, R: VotingRule> Cluster<B, R> {
         self.nodes.carry_out(node, &effect, NO_POWER, log)
     }
 
-    // What the node decides on a publish: the bytes are a log, and the configuration is legal.
+    // What the node decides on a publish: the bytes are a log, and the configuration is legal. A
+    // function of its own, since all ten tests at once are too much for the search.
     fn decide_publish(
         &self,
         member: &Member<'_, R>,

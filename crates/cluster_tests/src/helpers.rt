@@ -64,6 +64,7 @@ pub fn leading(votes: u16, version: Version, configuration: u16, publish_votes: 
 }
 
 /// One store as a bank.
+// In both test crates: a public function of `store` would say no more than the field does.
 pub fn single<S>(store: S) -> Single<S> {
     Single { store }
 }

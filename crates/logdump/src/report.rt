@@ -26,8 +26,8 @@ fn print_entry(rt: &HostRuntime, number: u16, read: Result<Message, Refusal>) ->
     }
 }
 
-// The message in an entry, or why it cannot be read. A member's delivery begins alike: one more
-// function of the log would be no shorter than the three calls.
+// The message in an entry, or why it cannot be read. A member's delivery begins with the same three
+// calls: one function for both would be one more public function of the log, for two callers.
 fn entry_message(bytes: &[u8], number: u16, nodes: u8) -> Result<Message, Refusal>
     ensures { result ≡ message_at nodes bytes.now number }
 {

@@ -10,7 +10,7 @@ use protocol::{
 };
 use quorum::{NodeSet, VotingRule};
 
-impl<'a, R: VotingRule> Member<'a, R> {
+impl<R: VotingRule> Member<'_, R> {
     /// The node accepts and commits the initial value and the initial configuration, once; its
     /// terms and its version stay.
     pub fn bootstrap(&self) -> Result<Effect, Refusal>

@@ -9,7 +9,7 @@ use protocol::{
 };
 use quorum::{NodeSet, VotingRule};
 
-impl<'a, R: VotingRule> Member<'a, R> {
+impl<R: VotingRule> Member<'_, R> {
     /// What the node does with a message that is for it.
     pub fn deliver(&self, message: &Message) -> Result<Effect, Refusal>
         ensures { result ≡ deliver_decided (meant R.quorum self.now.setup.now) self.now.state.now self.now.number message.now }
@@ -141,7 +141,7 @@ impl<'a, R: VotingRule> Member<'a, R> {
     }
 
     // Whether the votes decide the publication: in the committed and in the published
-    // configuration.
+    // configuration. Like `elects` but for one configuration: each has a definition of its own.
     fn decides(&self, publish_votes: NodeSet) -> bool
         ensures { result ≡ decides (meant R.quorum self.now.setup.now) self.now.state.now publish_votes }
     {

@@ -9,7 +9,7 @@ use message_log::{Entry, look_up};
 use protocol::{Effect, Message, Refusal};
 use quorum::VotingRule;
 
-impl<'a, R: VotingRule> Member<'a, R> {
+impl<R: VotingRule> Member<'_, R> {
     /// What the node, in a cluster of `nodes` nodes, does with an entry of a log.
     pub fn deliver_entry(&self, nodes: u8, log: &[u8], entry: u16) -> Result<Effect, Refusal>
         ensures { result ≡ on_entry (meant R.quorum self.now.setup.now) self.now.state.now self.now.number (message_at nodes log.now entry) }

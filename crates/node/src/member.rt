@@ -5,6 +5,7 @@ use crate::setup::Setup;
 use protocol::NodeState;
 
 /// A node of a cluster, as it decides: what is fixed, its number, and what it is now.
+// No `Model`, by which clauses would be shorter: a value cannot name what a bound's rule means.
 #[derive(Drop)]
 pub struct Member<'a, R> {
     pub setup: &'a Setup<R>,

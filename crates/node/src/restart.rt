@@ -17,7 +17,7 @@ pub fn restarted(kept: &Record) -> Volatile
     }
 }
 
-impl<'a, R: VotingRule> Member<'a, R> {
+impl<R: VotingRule> Member<'_, R> {
     /// A restart: the volatile values are lost.
     pub fn restart(&self) -> Effect
         ensures { result ≡ restart_effect (meant R.quorum self.now.setup.now) self.now.state.now }

@@ -26,12 +26,9 @@ fn candidate() -> NodeState {
             last_committed_configuration: NodeSet::from_bits(0x7),
         },
         volatile: Volatile {
-            join_votes: NodeSet::empty(),
             started_join: true,
-            election_won: false,
-            last_published_version: 0,
             last_published_configuration: NodeSet::from_bits(0x7),
-            publish_votes: NodeSet::empty(),
+            ..Volatile::default()
         },
     }
 }

@@ -47,6 +47,7 @@ pub fn cut_ring(bytes: &mut [u8]) -> Record
 }
 
 /// One store as a bank.
+// In both test crates: a public function of `store` would say no more than the field does.
 pub(crate) fn single<S>(store: S) -> Single<S>
     ensures { result.store ≡ store }
 {
