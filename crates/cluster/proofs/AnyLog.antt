@@ -1,7 +1,7 @@
 -- A call that is lent no log does the same beside every log.
 use Rattle.std.proofs.Common.{◌≡◌, ℕ, Bool, true, false, cond, List, [], ◌∷◌, None, Ok, Err, Option, Result, sym, refl, ap, ◌∙◌, subst}
 use Rattle.std.proofs.lemmas.Bool.{cond-true, cond-false}
-use Rattle.protocol.specs.Decisions.{Effect}
+use Rattle.protocol.specs.declared.effect.Effect.{Effect}
 use Rattle.protocol.specs.declared.message.Message.{Message}
 use Rattle.protocol.specs.declared.refusal.Refusal.{Refusal}
 use Rattle.protocol.specs.Decisions.{Setup, Test, decided, bootstrap_tests, bootstrap_effect, restart_effect}
@@ -28,13 +28,13 @@ silent_decided (test ∷ tests) effect h = go (silent_decided tests effect h) te
     go rest true = refl
     go rest false = rest
 
-module _ (setup : Setup ℕ) (state : State) (log : List ℕ) (n : ℕ) (power : Power) (keeps_new : Bool) where
+module _ (state : State) (log : List ℕ) (n : ℕ) (power : Power) (keeps_new : Bool) where
   carried_alike : (r : Result (Effect ℕ) Refusal) → message_in r ≡ None
-      → carried_out setup (relog log state) n power keeps_new r ≡ relogged log (carried_out setup state n power keeps_new r)
+      → carried_out (relog log state) n power keeps_new r ≡ relogged log (carried_out state n power keeps_new r)
   carried_alike (Err why) h = refl
   carried_alike (Ok effect) h =
       let P : Effect ℕ → Type 0 =
-      λ e. carried_out setup (relog log state) n power keeps_new (Ok e) ≡ relogged log (carried_out setup state n power keeps_new (Ok e))
+      λ e. carried_out (relog log state) n power keeps_new (Ok e) ≡ relogged log (carried_out state n power keeps_new (Ok e))
       in
       let same : record { change = effect.change; volatile = effect.volatile; message = None } ≡ effect =
       λ i. record { change = effect.change; volatile = effect.volatile; message = sym h i }
@@ -42,8 +42,8 @@ module _ (setup : Setup ℕ) (state : State) (log : List ℕ) (n : ℕ) (power :
       subst P same (go (finished (store_at state.stores n) effect.change power) refl)
     where
       go : (b : Bool) → finished (store_at state.stores n) effect.change power ≡ b
-          → written setup (relog log state) n power keeps_new (record { change = effect.change; volatile = effect.volatile; message = None }) None
-          ≡ relogged log (written setup state n power keeps_new (record { change = effect.change; volatile = effect.volatile; message = None }) None)
+          → written (relog log state) n power keeps_new (record { change = effect.change; volatile = effect.volatile; message = None }) None
+          ≡ relogged log (written state n power keeps_new (record { change = effect.change; volatile = effect.volatile; message = None }) None)
       go true f =
           cond-true (finished (store_at state.stores n) effect.change power) _ _ f
           ∙ sym (ap (relogged log) (cond-true (finished (store_at state.stores n) effect.change power) _ _ f))
@@ -71,15 +71,15 @@ module _ (setup : Setup ℕ) (before after : State) (log : List ℕ) where
     allowed = subst (λ c. Allowed (store_at before.stores (node_called call)) c (power_of call) s.keeps_new)
         (sym (ap (change_in log) same ∙ same_change log before.log (decision setup before call) silent)) s.allowed;
     fits = subst AllFit (ap message_in (sym same)) s.fits;
-    same = ap (carried_out setup (relog log before) (node_called call) (power_of call) s.keeps_new) same
-        ∙ carried_alike setup before log (node_called call) (power_of call) s.keeps_new (decision setup before call) silent
+    same = ap (carried_out (relog log before) (node_called call) (power_of call) s.keeps_new) same
+        ∙ carried_alike before log (node_called call) (power_of call) s.keeps_new (decision setup before call) silent
         ∙ ap (relogged log) s.same;
   }
 
   pub bootstrap_beside : (n : ℕ) (power : Power) (answer : Answer) → Step setup before (Bootstrap n power) answer after
       → Step setup (relog log before) (Bootstrap n power) answer (relog log after)
-  bootstrap_beside n power answer = step_beside (Bootstrap n power) answer refl (silent_decided (shut_test setup before ∷ node_test setup before n ∷ bootstrap_tests setup (node_at before n)) (bootstrap_effect setup (node_at before n)) refl)
+  bootstrap_beside n power answer = step_beside (Bootstrap n power) answer refl (silent_decided (shut_test before ∷ node_test before n ∷ bootstrap_tests setup (node_at before n)) (bootstrap_effect setup (node_at before n)) refl)
 
   pub restart_beside : (n : ℕ) (answer : Answer) → Step setup before (Restart n) answer after
       → Step setup (relog log before) (Restart n) answer (relog log after)
-  restart_beside n answer = step_beside (Restart n) answer refl (silent_decided (shut_test setup before ∷ node_test setup before n ∷ []) (restart_effect setup (node_at before n)) refl)
+  restart_beside n answer = step_beside (Restart n) answer refl (silent_decided (shut_test before ∷ node_test before n ∷ []) (restart_effect setup (node_at before n)) refl)

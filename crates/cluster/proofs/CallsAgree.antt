@@ -1,5 +1,5 @@
 -- A call over bytes is that call on the nodes and messages that the state denotes.
-use Rattle.std.proofs.Common.{◌≡◌, ℕ, zero, suc, ◌<◌, ◌≤◌, Bool, true, false, cond, not, ◌&&◌, ◌||◌, ltb, leb, List, [], ◌∷◌, ◌++◌, map, length, get_or, set, is_some, Some, None, Ok, Err, Option, Result, sym, refl, ap, ◌∙◌, ap₂, ⊎_elim, arith}
+use Rattle.std.proofs.Common.{◌≡◌, ℕ, zero, suc, ◌<◌, ◌≤◌, Bool, true, false, cond, not, ◌&&◌, ◌||◌, nat_lt, nat_le, List, [], ◌∷◌, ◌++◌, map, length, get_or, set, is_some, Some, None, Ok, Err, Option, Result, sym, refl, ap, ◌∙◌, ap₂, ⊎_elim, arith}
 use Rattle.std.specs.List.{slice_get}
 use Rattle.std.specs.Option.{option_map}
 use Rattle.std.proofs.lemmas.List.FromFn.{length-map-range_with_len, get_or-map-range_with_len}
@@ -8,9 +8,9 @@ use Rattle.std.proofs.lemmas.Option.{slice_get-get_or, slice_get_past}
 use Rattle.std.proofs.lemmas.Bool.{cond-true, cond-false, ltb-true, lt-ltb, le-ltb, lt-leb, le-leb, cases_lt}
 use Rattle.quorum.specs.Sets.{legal_configuration}
 use Rattle.protocol.specs.declared.change.Change.{Change}
-use Rattle.protocol.specs.Decisions.{Effect}
+use Rattle.protocol.specs.declared.effect.Effect.{Effect}
 use Rattle.protocol.specs.declared.message.Message.{Message}
-use Rattle.protocol.specs.Decisions.{Node}
+use Rattle.protocol.specs.declared.node_state.NodeState.{NodeState}
 use Rattle.protocol.specs.declared.record.Record.{Record}
 use Rattle.protocol.specs.declared.refusal.Refusal.{Refusal}
 use Rattle.protocol.specs.declared.refusal.Refusal.TheVariants.{UnknownNode, IllegalConfiguration, WriteUnfinished}
@@ -56,6 +56,29 @@ use Rattle.cluster.proofs.NodesDenoted.{length_nodes, nth_node, set_node, set_vo
 abbrev pub outcome_of : Outcome → messages.Outcome ℕ
 outcome_of o = record { answer = o.answer; world = world_of o.state }
 
+-- the same node is called
+pub same_node : (setup : Setup ℕ) (state : State) (call : Call) → messages.node_called setup (world_of state) (call_of call) ≡ node_called call
+same_node setup state (Bootstrap n power) = refl
+same_node setup state (StartJoin n d t power) = refl
+same_node setup state (Publish n t v value configuration) = refl
+same_node setup state (Deliver e n power) = refl
+same_node setup state (Restart n) = refl
+
+-- what holds of the log, asked where a call is lent it; and what follows from that
+pub lent : {asked : Type 0} (call : Call) → asked → IfLent call asked
+lent (Bootstrap n power) h = tt
+lent (StartJoin n d t power) h = h
+lent (Publish n t v value configuration) h = h
+lent (Deliver e n power) h = h
+lent (Restart n) h = tt
+
+pub lent_as : {asked given : Type 0} (call : Call) → (asked → given) → IfLent call asked → IfLent call given
+lent_as (Bootstrap n power) f h = tt
+lent_as (StartJoin n d t power) f h = f h
+lent_as (Publish n t v value configuration) f h = f h
+lent_as (Deliver e n power) f h = f h
+lent_as (Restart n) f h = tt
+
 -- Bytes and messages agree on a message: it is found in the bytes where it is found among the messages, and read back.
 pub record Agreed (setup : Setup ℕ) (n : ℕ) (bytes : List ℕ) (m : Message ℕ) : Type 0 where
   pub formed : well_formed bytes ≡ true
@@ -74,7 +97,7 @@ module _ (setup : Setup ℕ) (state : State) where
   many = length-map (entries state.log) (read_as N) ∙ length-map-range_with_len (stored_at state.log) 0 (count_of state.log)
 
   -- an entry, looked up in the bytes and among the messages
-  entry_at : (e : ℕ) → slice_get W.entries e ≡ option_map (read_as N) (cond (ltb e (count_of state.log)) (Some (stored_at state.log e)) None)
+  entry_at : (e : ℕ) → slice_get W.entries e ≡ option_map (read_as N) (cond (nat_lt e (count_of state.log)) (Some (stored_at state.log e)) None)
   entry_at e = ⊎_elim inside outside (cases_lt e (count_of state.log))
     where
       at : (l : List Stored) (e : ℕ) (d : Stored) → get_or (map (read_as N) l) e (read_as N d) ≡ read_as N (get_or l e d)
@@ -82,17 +105,17 @@ module _ (setup : Setup ℕ) (state : State) where
       at (x ∷ l) zero d = refl
       at (x ∷ l) (suc e) d = at l e d
 
-      inside : e < count_of state.log → slice_get W.entries e ≡ option_map (read_as N) (cond (ltb e (count_of state.log)) (Some (stored_at state.log e)) None)
+      inside : e < count_of state.log → slice_get W.entries e ≡ option_map (read_as N) (cond (nat_lt e (count_of state.log)) (Some (stored_at state.log e)) None)
       inside l =
           let d = stored_at state.log e in
           slice_get-get_or W.entries e (read_as N d) (omega (arith, many))
           ∙ ap Some (at (entries state.log) e d ∙ ap (read_as N) (get_or-map-range_with_len (stored_at state.log) 0 (count_of state.log) e e d l (omega arith)))
-          ∙ sym (ap (option_map (read_as N)) (cond-true (ltb e (count_of state.log)) (Some d) None (lt-ltb _ _ l)))
+          ∙ sym (ap (option_map (read_as N)) (cond-true (nat_lt e (count_of state.log)) (Some d) None (lt-ltb _ _ l)))
 
-      outside : count_of state.log ≤ e → slice_get W.entries e ≡ option_map (read_as N) (cond (ltb e (count_of state.log)) (Some (stored_at state.log e)) None)
+      outside : count_of state.log ≤ e → slice_get W.entries e ≡ option_map (read_as N) (cond (nat_lt e (count_of state.log)) (Some (stored_at state.log e)) None)
       outside l =
           slice_get_past W.entries e (omega (arith, many))
-          ∙ sym (ap (option_map (read_as N)) (cond-false (ltb e (count_of state.log)) (Some (stored_at state.log e)) None (le-ltb _ _ l)))
+          ∙ sym (ap (option_map (read_as N)) (cond-false (nat_lt e (count_of state.log)) (Some (stored_at state.log e)) None (le-ltb _ _ l)))
 
   entry_decided : (n e : ℕ) → well_formed state.log ≡ true
       → on_entry setup (node_at state n) n (message_at N state.log e) ≡ messages.decided_on setup W n (node_at state n) (slice_get W.entries e)
@@ -100,7 +123,7 @@ module _ (setup : Setup ℕ) (state : State) where
       ap (on_entry setup (node_at state n) n)
       (ap (λ (r : Result (Option Stored) Fault). elim r as (λ _. Result (Message ℕ) Refusal) [ Ok o ↦ found_as N o | Err fault ↦ Err (refusal_of fault) ])
       (cond-true (well_formed state.log) _ _ formed))
-      ∙ go (cond (ltb e (count_of state.log)) (Some (stored_at state.log e)) None)
+      ∙ go (cond (nat_lt e (count_of state.log)) (Some (stored_at state.log e)) None)
       ∙ sym (ap (messages.decided_on setup W n (node_at state n)) (entry_at e))
     where
       read : (r : Result (Message ℕ) Refusal) → on_entry setup (node_at state n) n r ≡ messages.decided_on setup W n (node_at state n) (Some r)
@@ -112,15 +135,15 @@ module _ (setup : Setup ℕ) (state : State) where
       go (Some s) = read (read_as N s)
 
   module _ (is_open : state.shut ≡ None) (few : length state.stores ≤ most_nodes) where
-    counted : count setup state ≡ N
+    counted : count state ≡ N
     counted = omega arith
 
     -- the tests that come first pass
     not_shut : is_some state.shut ≡ false
     not_shut = ap is_some is_open
 
-    past : {X : Type 0} (n : ℕ) → n < N → (next : Result X Refusal) → checked (shut_test setup state ∷ node_test setup state n ∷ []) next ≡ next
-    past n known next = cond-false (is_some state.shut) _ _ not_shut ∙ cond-false (leb (count setup state) n) _ _ (lt-leb (count setup state) n (omega (arith, counted)))
+    past : {X : Type 0} (n : ℕ) → n < N → (next : Result X Refusal) → checked (shut_test state ∷ node_test state n ∷ []) next ≡ next
+    past n known next = cond-false (is_some state.shut) _ _ not_shut ∙ cond-false (nat_le (count state) n) _ _ (lt-leb (count state) n (omega (arith, counted)))
 
     pub decisions_agree : (call : Call) → node_called call < N → IfLent call (well_formed state.log ≡ true)
         → decision setup state call ≡ messages.decision setup W (call_of call) (node_at state (node_called call))
@@ -128,10 +151,10 @@ module _ (setup : Setup ℕ) (state : State) where
         past n known (decided (bootstrap_tests setup (node_at state n)) (bootstrap_effect setup (node_at state n)))
     decisions_agree (StartJoin n d t power) known log =
         past n known _
-        ∙ ap (λ (r : Result (Effect ℕ) Refusal). cond (leb (count setup state) d) (Err UnknownNode) r)
+        ∙ ap (λ (r : Result (Effect ℕ) Refusal). cond (nat_le (count state) d) (Err UnknownNode) r)
         (cond-false (not (well_formed state.log)) _ (decided (start_join_tests setup (node_at state n) t) (start_join_effect setup (node_at state n) n d t)) (ap not log))
         ∙ ap
-        (λ (k : ℕ). cond (leb k d) (Err UnknownNode) (decided (start_join_tests setup (node_at state n) t) (start_join_effect setup (node_at state n) n d t)))
+        (λ (k : ℕ). cond (nat_le k d) (Err UnknownNode) (decided (start_join_tests setup (node_at state n) t) (start_join_effect setup (node_at state n) n d t)))
         (counted ∙ sym (length_nodes state.stores state.volatile))
     decisions_agree (Publish n t v value configuration) known log =
         past n known _
@@ -143,19 +166,23 @@ module _ (setup : Setup ℕ) (state : State) where
     decisions_agree (Deliver e n power) known log = past n known _ ∙ ap (λ (k : ℕ). on_entry setup (node_at state n) n (message_at k state.log e)) counted ∙ entry_decided n e log
     decisions_agree (Restart n) known log = past n known (Ok (restart_effect setup (node_at state n)))
 
+    no_such : {X : Type 0} (n : ℕ) → N ≤ n → (next : Result X Refusal) → checked (shut_test state ∷ node_test state n ∷ []) next ≡ Err UnknownNode
+    no_such n h next =
+        cond-false (is_some state.shut) _ _ not_shut ∙ cond-true (nat_le (count state) n) _ _ (le-leb (count state) n (omega (arith, counted)))
+
     pub unknown : (call : Call) → N ≤ node_called call → decision setup state call ≡ Err UnknownNode
-    unknown (Bootstrap n power) h = cond-false (is_some state.shut) _ _ not_shut ∙ cond-true (leb (count setup state) n) _ _ (le-leb (count setup state) n (omega (arith, counted)))
-    unknown (StartJoin n d t power) h = cond-false (is_some state.shut) _ _ not_shut ∙ cond-true (leb (count setup state) n) _ _ (le-leb (count setup state) n (omega (arith, counted)))
-    unknown (Publish n t v value configuration) h = cond-false (is_some state.shut) _ _ not_shut ∙ cond-true (leb (count setup state) n) _ _ (le-leb (count setup state) n (omega (arith, counted)))
-    unknown (Deliver e n power) h = cond-false (is_some state.shut) _ _ not_shut ∙ cond-true (leb (count setup state) n) _ _ (le-leb (count setup state) n (omega (arith, counted)))
-    unknown (Restart n) h = cond-false (is_some state.shut) _ _ not_shut ∙ cond-true (leb (count setup state) n) _ _ (le-leb (count setup state) n (omega (arith, counted)))
+    unknown (Bootstrap n power) h = no_such n h _
+    unknown (StartJoin n d t power) h = no_such n h _
+    unknown (Publish n t v value configuration) h = no_such n h _
+    unknown (Deliver e n power) h = no_such n h _
+    unknown (Restart n) h = no_such n h _
 
   -- Carrying out an effect of node n.
   module _ (n : ℕ) (known : n < N) (placed : n < length state.volatile) (power : Power) (keeps_new : Bool) where
     abbrev store : Meaning
     store = store_at state.stores n
 
-    abbrev node : Node ℕ
+    abbrev node : NodeState ℕ
     node = node_at state n
 
     abbrev fate : Fate
@@ -165,7 +192,7 @@ module _ (setup : Setup ℕ) (state : State) where
     abbrev writing : Effect ℕ → Option (Change ℕ) → (entry : Option ℕ) → Outcome
     writing effect c entry =
         let stores = stores_after state.stores n c power keeps_new in
-        cond (finished store c power) (taken setup state n stores effect entry) (cut setup state n stores)
+        cond (finished store c power) (taken state n stores effect entry) (cut state n stores)
 
     written_agrees : (effect : Effect ℕ) (c : Option (Change ℕ)) (entry : Option ℕ) (es : List (Entry ℕ))
         → capacity_of (log_with state.log effect.message) ≡ capacity_of state.log
@@ -208,7 +235,7 @@ module _ (setup : Setup ℕ) (state : State) where
             in
             cond-true (finishes store power) _ _ f
             ∙ (λ i. record { answer = Ok entry; world = record { nodes = nodes i; capacity = sym room i; entries = read' i } })
-            ∙ sym (ap outcome_of (cond-true (finishes store power) (taken setup state n (stores_after state.stores n (Some change) power keeps_new) effect entry) (cut setup state n (stores_after state.stores n (Some change) power keeps_new)) f))
+            ∙ sym (ap outcome_of (cond-true (finishes store power) (taken state n (stores_after state.stores n (Some change) power keeps_new) effect entry) (cut state n (stores_after state.stores n (Some change) power keeps_new)) f))
         go false f =
             let kept = cond (store.sound && keeps_new) (changed change store.content) store.content in
             let same : kept ≡ (after_write store change power keeps_new).content =
@@ -223,14 +250,14 @@ module _ (setup : Setup ℕ) (state : State) where
             in
             cond-false (finishes store power) _ _ f
             ∙ (λ i. record { answer = Err WriteUnfinished; world = record { nodes = nodes i; capacity = W.capacity; entries = read' i } })
-            ∙ sym (ap outcome_of (cond-false (finishes store power) (taken setup state n (stores_after state.stores n (Some change) power keeps_new) effect entry) (cut setup state n (stores_after state.stores n (Some change) power keeps_new)) f))
+            ∙ sym (ap outcome_of (cond-false (finishes store power) (taken state n (stores_after state.stores n (Some change) power keeps_new) effect entry) (cut state n (stores_after state.stores n (Some change) power keeps_new)) f))
 
     -- a message is sent
     sending_agrees : (effect : Effect ℕ) (m : Message ℕ) → effect.message ≡ Some m → Agreed setup N state.log m
         → messages.with_room setup W n node fate effect (messages.sent setup W (Some m))
-        ≡ outcome_of (if_placed setup state n power keeps_new effect (place_for state.log (Some m)))
+        ≡ outcome_of (if_placed state n power keeps_new effect (place_for state.log (Some m)))
     unfolding appended
-    sending_agrees effect m is agreed = go (position (same_stored (stored_as m)) (entries state.log)) refl (ltb (count_of state.log) (capacity_of state.log)) refl
+    sending_agrees effect m is agreed = go (position (same_stored (stored_as m)) (entries state.log)) refl (nat_lt (count_of state.log) (capacity_of state.log)) refl
       where
         added_as : (o : Option ℕ) → position (same_stored (stored_as m)) (entries state.log) ≡ o → appended state.log m ≡ add_unless o state.log (stored_as m)
         added_as o p = cond-true (well_formed state.log) _ _ agreed.formed ∙ ap (λ (o : Option ℕ). add_unless o state.log (stored_as m)) p
@@ -246,17 +273,17 @@ module _ (setup : Setup ℕ) (state : State) where
         sent_at : (o : Option ℕ) → position (same_stored (stored_as m)) (entries state.log) ≡ o → messages.sent setup W (Some m) ≡ messages.sent_unless setup W o m
         sent_at o p = ap (λ (o : Option ℕ). messages.sent_unless setup W o m) (sym agreed.found ∙ p)
 
-        go : (o : Option ℕ) → position (same_stored (stored_as m)) (entries state.log) ≡ o → (b : Bool) → ltb (count_of state.log) (capacity_of state.log) ≡ b
+        go : (o : Option ℕ) → position (same_stored (stored_as m)) (entries state.log) ≡ o → (b : Bool) → nat_lt (count_of state.log) (capacity_of state.log) ≡ b
             → messages.with_room setup W n node fate effect (messages.sent setup W (Some m))
-            ≡ outcome_of (if_placed setup state n power keeps_new effect (place_for state.log (Some m)))
+            ≡ outcome_of (if_placed state n power keeps_new effect (place_for state.log (Some m)))
         go (Some e) p b q =
             let a = added_as (Some e) p in
             let l = left (record { answer = Ok e; bytes = state.log }) a in
             ap (messages.with_room setup W n node fate effect) (sent_at (Some e) p)
             ∙ written_agrees effect effect.change (Some e) W.entries (ap capacity_of l) (ap (entries_read N) l)
-            ∙ sym (ap (λ r. outcome_of (if_placed setup state n power keeps_new effect r)) (place (record { answer = Ok e; bytes = state.log }) a))
+            ∙ sym (ap (λ r. outcome_of (if_placed state n power keeps_new effect r)) (place (record { answer = Ok e; bytes = state.log }) a))
         go None p true q =
-            let a = added_as None p ∙ cond-true (ltb (count_of state.log) (capacity_of state.log)) _ _ q in
+            let a = added_as None p ∙ cond-true (nat_lt (count_of state.log) (capacity_of state.log)) _ _ q in
             let o : log.Outcome ℕ = record { answer = Ok (count_of state.log); bytes = added state.log (stored_as m) } in
             let l = left o a in
             let room : count_of state.log < capacity_of state.log = ltb-true _ _ q in
@@ -270,29 +297,29 @@ module _ (setup : Setup ℕ) (state : State) where
             in
             ap (messages.with_room setup W n node fate effect)
             (sent_at None p
-            ∙ ap (λ (k : ℕ). cond (ltb k (capacity_of state.log)) (Some (record { entry = Some k; entries = W.entries ++ Ok m ∷ [] })) None) many
-            ∙ cond-true (ltb (count_of state.log) (capacity_of state.log)) _ _ q)
+            ∙ ap (λ (k : ℕ). cond (nat_lt k (capacity_of state.log)) (Some (record { entry = Some k; entries = W.entries ++ Ok m ∷ [] })) None) many
+            ∙ cond-true (nat_lt (count_of state.log) (capacity_of state.log)) _ _ q)
             ∙ written_agrees effect effect.change (Some (count_of state.log)) (W.entries ++ Ok m ∷ []) (ap capacity_of l ∙ h.room) (ap (entries_read N) l ∙ read)
-            ∙ sym (ap (λ r. outcome_of (if_placed setup state n power keeps_new effect r)) (place o a))
+            ∙ sym (ap (λ r. outcome_of (if_placed state n power keeps_new effect r)) (place o a))
         go None p false q =
-            let a = added_as None p ∙ cond-false (ltb (count_of state.log) (capacity_of state.log)) _ _ q in
+            let a = added_as None p ∙ cond-false (nat_lt (count_of state.log) (capacity_of state.log)) _ _ q in
             let o : log.Outcome ℕ = record { answer = Err LogFull; bytes = state.log } in
             ap (messages.with_room setup W n node fate effect)
             (sent_at None p
-            ∙ ap (λ (k : ℕ). cond (ltb k (capacity_of state.log)) (Some (record { entry = Some k; entries = W.entries ++ Ok m ∷ [] })) None) many
-            ∙ cond-false (ltb (count_of state.log) (capacity_of state.log)) _ _ q)
-            ∙ sym (ap (λ r. outcome_of (if_placed setup state n power keeps_new effect r)) (place o a))
+            ∙ ap (λ (k : ℕ). cond (nat_lt k (capacity_of state.log)) (Some (record { entry = Some k; entries = W.entries ++ Ok m ∷ [] })) None) many
+            ∙ cond-false (nat_lt (count_of state.log) (capacity_of state.log)) _ _ q)
+            ∙ sym (ap (λ r. outcome_of (if_placed state n power keeps_new effect r)) (place o a))
 
     effect_agrees : (effect : Effect ℕ) (mo : Option (Message ℕ)) → effect.message ≡ mo → ((m : Message ℕ) → mo ≡ Some m → Agreed setup N state.log m)
         → messages.with_room setup W n node fate effect (messages.sent setup W mo)
-        ≡ outcome_of (if_placed setup state n power keeps_new effect (place_for state.log mo))
+        ≡ outcome_of (if_placed state n power keeps_new effect (place_for state.log mo))
     effect_agrees effect None is agreed =
         let l = ap (log_with state.log) is in
         written_agrees effect effect.change None W.entries (ap capacity_of l) (ap (entries_read N) l)
     effect_agrees effect (Some m) is agreed = sending_agrees effect m is (agreed m refl)
 
     carried_agrees : (r : Result (Effect ℕ) Refusal) → ((m : Message ℕ) → message_in r ≡ Some m → Agreed setup N state.log m)
-        → messages.carried_out setup W n node fate r ≡ outcome_of (carried_out setup state n power keeps_new r)
+        → messages.carried_out setup W n node fate r ≡ outcome_of (carried_out state n power keeps_new r)
     carried_agrees (Err why) agreed = refl
     carried_agrees (Ok effect) agreed = effect_agrees effect effect.message refl agreed
 
@@ -303,23 +330,16 @@ module _ (setup : Setup ℕ) (state : State) where
       → messages.called setup W (call_of call) (fate_of state call keeps_new) ≡ outcome_of (called setup state call keeps_new)
   calls_agree is_open few places call log agreed keeps_new = ⊎_elim inside outside (cases_lt (node_called call) N)
     where
-      same_node : (call : Call) → messages.node_called setup W (call_of call) ≡ node_called call
-      same_node (Bootstrap n power) = refl
-      same_node (StartJoin n d t power) = refl
-      same_node (Publish n t v value configuration) = refl
-      same_node (Deliver e n power) = refl
-      same_node (Restart n) = refl
-
       inside : (node_called call) < N → messages.called setup W (call_of call) (fate_of state call keeps_new) ≡ outcome_of (called setup state call keeps_new)
       inside known =
-          ap (λ (k : ℕ). messages.if_known setup W k (fate_of state call keeps_new) (messages.decision setup W (call_of call)) (slice_get W.nodes k)) (same_node call)
+          ap (λ (k : ℕ). messages.if_known setup W k (fate_of state call keeps_new) (messages.decision setup W (call_of call)) (slice_get W.nodes k)) (same_node setup state call)
           ∙ ap (messages.if_known setup W (node_called call) (fate_of state call keeps_new) (messages.decision setup W (call_of call))) (nth_node state.stores state.volatile (node_called call) known)
           ∙ ap (messages.carried_out setup W (node_called call) (node_at state (node_called call)) (fate_of state call keeps_new)) (sym (decisions_agree is_open few call known log))
           ∙ carried_agrees (node_called call) known (omega arith) (power_of call) keeps_new (decision setup state call) agreed
 
       outside : N ≤ (node_called call) → messages.called setup W (call_of call) (fate_of state call keeps_new) ≡ outcome_of (called setup state call keeps_new)
       outside h =
-          ap (λ (k : ℕ). messages.if_known setup W k (fate_of state call keeps_new) (messages.decision setup W (call_of call)) (slice_get W.nodes k)) (same_node call)
+          ap (λ (k : ℕ). messages.if_known setup W k (fate_of state call keeps_new) (messages.decision setup W (call_of call)) (slice_get W.nodes k)) (same_node setup state call)
           ∙ ap (messages.if_known setup W (node_called call) (fate_of state call keeps_new) (messages.decision setup W (call_of call)))
           (slice_get_past W.nodes (node_called call) (omega (arith, length_nodes state.stores state.volatile)))
-          ∙ sym (ap (λ r. outcome_of (carried_out setup state (node_called call) (power_of call) keeps_new r)) (unknown is_open few call h))
+          ∙ sym (ap (λ r. outcome_of (carried_out state (node_called call) (power_of call) keeps_new r)) (unknown is_open few call h))

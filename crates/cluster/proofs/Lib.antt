@@ -14,7 +14,7 @@ pub mod Unsplitting
 pub mod Octets
 -- steps over bytes are the model's
 pub mod Modelling
--- what follows where the tests of the input pass
+-- what follows where tests pass
 pub mod Passing
 -- whether every store is fresh, store by store
 pub mod Freshness

@@ -1,15 +1,16 @@
 -- Steps over bytes are the model's, from sensible states; and states that calls reach are sensible.
-use Rattle.std.proofs.Common.{◌≡◌, ℕ, suc, ◌<◌, ◌≤◌, Bool, true, false, cond, eqb, ltb, leb, ◌⊎◌, List, [], ◌∷◌, map, length, get_or, Some, None, Ok, Err, Decides, Option, Result, sym, refl, ap, ◌∙◌, subst, ap₂, ⊎_elim, arith}
+use Rattle.std.proofs.Common.{◌≡◌, ℕ, suc, ◌<◌, ◌≤◌, Bool, true, false, cond, ◌==◌, nat_lt, nat_le, ◌⊎◌, List, [], ◌∷◌, map, length, get_or, Some, None, Ok, Err, Decides, Option, Result, sym, refl, ap, ◌∙◌, subst, ap₂, ⊎_elim, arith}
 use Rattle.std.specs.List.{slice_get, range_with_len}
 use Rattle.std.specs.Option.{option_map}
 use Rattle.std.proofs.lemmas.Slice.Eq.{bytes_eq-Decides}
 use Rattle.std.proofs.lemmas.Bool.{and_parts, and_from, eqb-true, cond-true, cond-false, leb-false, lt-ltb, ltb-true, not-false, cases_Bool, false≢true}
 use Rattle.quorum.specs.Sets.{legal_configuration}
-use Rattle.protocol.specs.Decisions.{Effect}
+use Rattle.protocol.proofs.Log.{impossible}
+use Rattle.protocol.specs.declared.effect.Effect.{Effect}
 use Rattle.protocol.specs.declared.kind.Kind.{Kind}
 use Rattle.protocol.specs.declared.message.Message.{Message}
 use Rattle.protocol.specs.declared.message.Message.TheVariants as message
-use Rattle.protocol.specs.Decisions.{Node}
+use Rattle.protocol.specs.declared.node_state.NodeState.{NodeState}
 use Rattle.protocol.specs.declared.refusal.Refusal.{Refusal}
 use Rattle.protocol.specs.Decisions.{
   Setup,
@@ -53,7 +54,7 @@ use Rattle.message_log.specs.declared.fault.Fault.TheVariants.{UnknownKind}
 use Rattle.message_log.specs.Faults.{refusal_of}
 use Rattle.message_log.specs.Layout.{well_formed, capacity_of, count_of, body_place, body_length}
 use Rattle.message_log.specs.Log.{Stored, stored_at, same_stored, stored_as, read_as, found_as, message_at}
-use Rattle.message_log.specs.Rules.{read_body, read_message, Fits, WritesBack}
+use Rattle.message_log.specs.Rules.{read_body, read_message, WritesBack}
 use Rattle.message_log.proofs.Adding as adding
 use Rattle.message_log.proofs.Encoded.{read_stored}
 use Rattle.message_log.proofs.RoundTrip.{writes_back}
@@ -64,16 +65,13 @@ use Rattle.cluster.specs.States.{State, most_nodes, node_at}
 use Rattle.cluster.specs.Calls.{Answer, count, node_called, shut_test, node_test, log_test, decision, message_in, AllFit, Step}
 use Rattle.cluster.specs.Worlds.{world_of, call_of, fate_of}
 use Rattle.cluster.specs.Runs.{Reached}
-use Rattle.cluster.specs.Models.{IfLent, IsLog, Sensible, outcome, Modelled, StepsOverBytesAreTheModels}
-use Rattle.cluster.proofs.Passing.{decided-checked}
+use Rattle.cluster.specs.Models.{IsLog, Sensible, outcome, Modelled, StepsOverBytesAreTheModels}
 use Rattle.cluster.proofs.NodesDenoted.{nth_node, length_nodes}
-use Rattle.cluster.proofs.CallsAgree.{Agreed, outcome_of, calls_agree}
+use Rattle.cluster.proofs.Frames.{fit_due}
+use Rattle.cluster.proofs.CallsAgree.{Agreed, lent, lent_as, outcome_of, calls_agree}
 use Rattle.cluster.proofs.Octets.{Octets, of_take, of_drop, of_encoding, of_each}
 use Rattle.cluster.proofs.Reaching.{Going}
 use Rattle.cluster.proofs.Unsplitting.{going_if_open}
-
-impossible : {X : Type 0} → ◌≡◌ {A = ℕ} 0 1 → X
-impossible z = absurd (omega arith)
 
 same_message_due : {a b : Message ℕ} → Some a ≡ Some b → a ≡ b
 same_message_due e = cc
@@ -98,7 +96,7 @@ module _ (setup : Setup ℕ) (values : (x y : ℕ) → Decides (setup.same_value
     (back : read_as n (stored_as m) ≡ Ok m) where
   same_stored_is_equal : (x y : Stored) → same_stored x y ≡ true → x ≡ y
   same_stored_is_equal x y h =
-      let p = and_parts (eqb x.kind y.kind) _ h in
+      let p = and_parts (x.kind == y.kind) _ h in
       ap₂ (λ (k : ℕ) (b : List ℕ). record { kind = k; body = b }) (eqb-true _ _ p.0) ((bytes_eq-Decides x.body y.body).0 p.1)
 
   tests_agree : (s : Stored) → Octets s.body → same_stored (stored_as m) s ≡ is_message setup m (read_as n s)
@@ -154,11 +152,11 @@ module _ (setup : Setup ℕ) (values : (x y : ℕ) → Decides (setup.same_value
     legal : legal_message N m ≡ true
 
   module _ (few : length state.stores ≤ most_nodes) where
-    counted : count setup state ≡ N
+    counted : count state ≡ N
     counted = omega arith
 
-    is_node : (n : ℕ) → leb (count setup state) n ≡ false → ltb n N ≡ true
-    is_node n h = lt-ltb n N (omega (arith, counted, leb-false (count setup state) n h))
+    is_node : (n : ℕ) → nat_le (count state) n ≡ false → nat_lt n N ≡ true
+    is_node n h = lt-ltb n N (omega (arith, counted, leb-false (count state) n h))
 
     -- a decision that sends a message
     sends : (m : Message ℕ) (tests : List Test) (next : Result (Effect ℕ) Refusal) → message_in (checked tests next) ≡ Some m
@@ -175,28 +173,28 @@ module _ (setup : Setup ℕ) (values : (x y : ℕ) → Decides (setup.same_value
     sends_effect : (m : Message ℕ) (tests : List Test) (effect : Effect ℕ) → message_in (decided tests effect) ≡ Some m
         → (Passed tests → effect.message ≡ Some m → Due m) → Due m
     sends_effect m tests effect h due =
-        sends m tests (Ok effect) (ap message_in (sym (decided-checked tests effect)) ∙ h)
+        sends m tests (Ok effect) h
         (λ p x e k.
         let same : effect ≡ x = cc in
         due p (ap (λ (y : Effect ℕ). y.message) same ∙ k))
 
     -- a message that was read is legal
-    read_legal : IsLog state.log → (e : ℕ) (m : Message ℕ) → message_at (count setup state) state.log e ≡ Ok m → legal_message N m ≡ true
+    read_legal : IsLog state.log → (e : ℕ) (m : Message ℕ) → message_at (count state) state.log e ≡ Ok m → legal_message N m ≡ true
     read_legal log e m h =
         subst (λ (k : ℕ). legal_message k m ≡ true) counted
-        (there (ltb e (count_of state.log))
-        (sym (ap (λ (r : Result (Option Stored) Fault). elim r as (λ _. Result (Message ℕ) Refusal) [ Ok o ↦ found_as (count setup state) o | Err fault ↦ Err (refusal_of fault) ])
+        (there (nat_lt e (count_of state.log))
+        (sym (ap (λ (r : Result (Option Stored) Fault). elim r as (λ _. Result (Message ℕ) Refusal) [ Ok o ↦ found_as (count state) o | Err fault ↦ Err (refusal_of fault) ])
         (cond-true (well_formed state.log) _ _ log.formed))
         ∙ h))
       where
-        there : (b : Bool) → found_as (count setup state) (cond b (Some (stored_at state.log e)) None) ≡ Ok m → legal_message (count setup state) m ≡ true
+        there : (b : Bool) → found_as (count state) (cond b (Some (stored_at state.log e)) None) ≡ Ok m → legal_message (count state) m ≡ true
         there true k =
-            (read_back (count setup state) (stored_at state.log e) m
+            (read_back (count state) (stored_at state.log e) m
             (of_take body_length _ (of_drop (body_place (capacity_of state.log) e) state.log (record { at = log.bytes }))) k).legal
         there false k = impossible cc
 
     -- what a delivery sends
-    delivered : (n : ℕ) → ltb n N ≡ true → IsLog state.log → (node : Node ℕ) (x : Message ℕ) → legal_message N x ≡ true
+    delivered : (n : ℕ) → nat_lt n N ≡ true → IsLog state.log → (node : NodeState ℕ) (x : Message ℕ) → legal_message N x ≡ true
         → (effect : Effect ℕ) → deliver_decided setup node n x ≡ Ok effect → (m : Message ℕ) → effect.message ≡ Some m → Due m
     delivered n known log node (message.Join j) l effect d m h =
         let same = (taken (join_tests setup node j) (join_effect setup node j) effect d).1 in
@@ -207,7 +205,7 @@ module _ (setup : Setup ℕ) (values : (x y : ℕ) → Decides (setup.same_value
         record {
           log = log;
           legal = subst (λ (y : Message ℕ). legal_message N y ≡ true) (same_message_due (ap (λ (y : Effect ℕ). y.message) same ∙ h))
-              (and_from (ltb n N) (ltb p.source N) known (and_parts (ltb p.source N) _ l).0);
+              (and_from (nat_lt n N) (nat_lt p.source N) known (and_parts (nat_lt p.source N) _ l).0);
         }
     delivered n known log node (message.Response r) l effect d m h =
         let same = (taken (response_tests setup node r) (response_effect setup node n r) effect d).1 in
@@ -221,7 +219,7 @@ module _ (setup : Setup ℕ) (values : (x y : ℕ) → Decides (setup.same_value
         let q : None ≡ Some m = ap (λ (y : Effect ℕ). y.message) same ∙ h in
         impossible cc
 
-    on_entry_sends : (n : ℕ) → ltb n N ≡ true → IsLog state.log → (node : Node ℕ) (r : Result (Message ℕ) Refusal)
+    on_entry_sends : (n : ℕ) → nat_lt n N ≡ true → IsLog state.log → (node : NodeState ℕ) (r : Result (Message ℕ) Refusal)
         → ((x : Message ℕ) → r ≡ Ok x → legal_message N x ≡ true)
         → (effect : Effect ℕ) → on_entry setup node n r ≡ Ok effect → (m : Message ℕ) → effect.message ≡ Some m → Due m
     on_entry_sends n known log node (Err why) legal effect d m h = impossible cc
@@ -236,48 +234,44 @@ module _ (setup : Setup ℕ) (values : (x y : ℕ) → Decides (setup.same_value
   due : (call : Call) → Sensible state call → (m : Message ℕ) → message_in (decision setup state call) ≡ Some m → Due m
   due (Bootstrap n power) s m h =
       let node = node_at state n in
-      sends_effect s.few m (shut_test setup state ∷ node_test setup state n ∷ bootstrap_tests setup node) (bootstrap_effect setup node) h
+      sends_effect s.few m (shut_test state ∷ node_test state n ∷ bootstrap_tests setup node) (bootstrap_effect setup node) h
       (λ p e. let q : None ≡ Some m = e in impossible cc)
   due (StartJoin n d t power) s m h =
       let node = node_at state n in
       sends_effect s.few m
-      (shut_test setup state ∷ node_test setup state n ∷ node_test setup state d ∷ log_test setup state ∷ start_join_tests setup node t)
+      (shut_test state ∷ node_test state n ∷ node_test state d ∷ log_test state ∷ start_join_tests setup node t)
       (start_join_effect setup node n d t) h
       (λ p e. record {
         log = s.log;
         legal = subst (λ (y : Message ℕ). legal_message N y ≡ true) (same_message_due e)
-            (and_from (ltb n N) (ltb d N) (is_node s.few n p.1.0) (is_node s.few d p.1.1.0));
+            (and_from (nat_lt n N) (nat_lt d N) (is_node s.few n p.1.0) (is_node s.few d p.1.1.0));
       })
   due (Publish n t v value configuration) s m h =
       let node = node_at state n in
       sends_effect s.few m
-      (shut_test setup state ∷ node_test setup state n ∷ log_test setup state ∷ _ ∷ publish_tests setup node t v configuration)
+      (shut_test state ∷ node_test state n ∷ log_test state ∷ _ ∷ publish_tests setup node t v configuration)
       (publish_effect setup node n t v value configuration) h
       (λ p e.
       let known = is_node s.few n p.1.0 in
       let chosen : legal_configuration N configuration ≡ true =
       subst (λ (k : ℕ). legal_configuration k configuration ≡ true) (counted s.few)
-      (not-false (legal_configuration (count setup state) configuration) p.1.1.1.0)
+      (not-false (legal_configuration (count state) configuration) p.1.1.1.0)
       in
       let committed = s.leads (ltb-true n N known) (not-false node.volatile.election_won p.1.1.1.1.0) in
       record {
         log = s.log;
         legal = subst (λ (y : Message ℕ). legal_message N y ≡ true) (same_message_due e)
-            (and_from (ltb n N) _ known (and_from (legal_configuration N configuration) _ chosen committed));
+            (and_from (nat_lt n N) _ known (and_from (legal_configuration N configuration) _ chosen committed));
       })
   due (Deliver e n power) s m h =
-      sends s.few m (shut_test setup state ∷ node_test setup state n ∷ [])
-      (on_entry setup (node_at state n) n (message_at (count setup state) state.log e)) h
+      sends s.few m (shut_test state ∷ node_test state n ∷ [])
+      (on_entry setup (node_at state n) n (message_at (count state) state.log e)) h
       (λ p effect d k.
-      on_entry_sends s.few n (is_node s.few n p.1.0) s.log (node_at state n) (message_at (count setup state) state.log e)
+      on_entry_sends s.few n (is_node s.few n p.1.0) s.log (node_at state n) (message_at (count state) state.log e)
       (read_legal s.few s.log e) effect d m k)
   due (Restart n) s m h =
-      sends_effect s.few m (shut_test setup state ∷ node_test setup state n ∷ []) (restart_effect setup (node_at state n)) h
+      sends_effect s.few m (shut_test state ∷ node_test state n ∷ []) (restart_effect setup (node_at state n)) h
       (λ p e. let q : None ≡ Some m = e in impossible cc)
-
-  fit_due : (o : Option (Message ℕ)) → AllFit o → (m : Message ℕ) → o ≡ Some m → Fits m
-  fit_due None f m h = impossible cc
-  fit_due (Some x) f m h = subst Fits (same_message_due h) f
 
   agreed : (call : Call) → Sensible state call → AllFit (message_in (decision setup state call))
       → (m : Message ℕ) → message_in (decision setup state call) ≡ Some m → Agreed setup N state.log m
@@ -290,17 +284,10 @@ module _ (setup : Setup ℕ) (values : (x y : ℕ) → Decides (setup.same_value
         back = back;
       }
 
-  lent : (call : Call) → IfLent call (IsLog state.log) → IfLent call (well_formed state.log ≡ true)
-  lent (Bootstrap n power) h = tt
-  lent (StartJoin n d t power) h = h.formed
-  lent (Publish n t v value configuration) h = h.formed
-  lent (Deliver e n power) h = h.formed
-  lent (Restart n) h = tt
-
   agrees : (call : Call) (answer : Answer) (after : State) (step : Step setup state call answer after) → Sensible state call
       → messages.called setup (world_of state) (call_of call) (fate_of state call step.keeps_new) ≡ outcome answer after
   agrees call answer after step s =
-      calls_agree setup state s.is_open s.few (omega (arith, s.few, s.places)) call (lent call s.log) (agreed call s step.fits) step.keeps_new
+      calls_agree setup state s.is_open s.few (omega (arith, s.few, s.places)) call (lent_as call (λ l. l.formed) s.log) (agreed call s step.fits) step.keeps_new
       ∙ ap outcome_of step.same
 
 pub modelled : (setup : Setup ℕ) → ((x y : ℕ) → Decides (setup.same_value x y) (x ≡ y)) → (before after : State) (call : Call) (answer : Answer)
@@ -336,13 +323,6 @@ module _ (setup : Setup ℕ) (lawful : Lawful setup) (state : State) (g : Going 
   going_log : IsLog state.log
   going_log = record { formed = g.log.encodes.log; bytes = going_octets.at }
 
-  going_lent : (call : Call) → IfLent call (IsLog state.log)
-  going_lent (Bootstrap n power) = tt
-  going_lent (StartJoin n d t power) = going_log
-  going_lent (Publish n t v value configuration) = going_log
-  going_lent (Deliver e n power) = going_log
-  going_lent (Restart n) = tt
-
   going_leads : (n : ℕ) → n < length state.stores → (node_at state n).volatile.election_won ≡ true
       → legal_configuration (length state.stores) (node_at state n).kept.last_committed_configuration ≡ true
   going_leads n known won =
@@ -361,7 +341,7 @@ module _ (setup : Setup ℕ) (lawful : Lawful setup) (state : State) (g : Going 
     is_open = g.is_open;
     few = g.few;
     places = g.places;
-    log = going_lent call;
+    log = lent call going_log;
     leads = going_leads (node_called call);
   }
 

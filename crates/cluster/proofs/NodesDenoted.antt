@@ -2,7 +2,7 @@
 use Rattle.std.proofs.Common.{◌≡◌, ℕ, zero, suc, ◌<◌, List, [], ◌∷◌, length, get_or, set, replicate, Some, refl, ap, ◌∙◌, arith}
 use Rattle.std.specs.List.{slice_get}
 use Rattle.std.proofs.lemmas.List.{set-get_or}
-use Rattle.protocol.specs.Decisions.{Node}
+use Rattle.protocol.specs.declared.node_state.NodeState.{NodeState}
 use Rattle.protocol.specs.declared.volatile.Volatile.{Volatile}
 use Rattle.store.specs.Stores.{Meaning}
 use Rattle.store.specs.Banks.{absent, store_at}
@@ -31,7 +31,7 @@ set_node [] volatile n s w h = refl
 set_node (x ∷ stores) [] n s w h = absurd (omega arith)
 set_node (x ∷ stores) (y ∷ volatile) zero s w h = refl
 set_node (x ∷ stores) (y ∷ volatile) (suc n) s w h =
-    ap (λ (l : List (Node ℕ)). record { kept = x.content; volatile = y } ∷ l) (set_node stores volatile n s w (omega arith))
+    ap (λ (l : List (NodeState ℕ)). record { kept = x.content; volatile = y } ∷ l) (set_node stores volatile n s w (omega arith))
 
 pub set_volatile : (stores : List Meaning) (volatile : List Volatile) (n : ℕ) (w : Volatile) → n < length volatile
     → set (nodes_of stores volatile) n (record { kept = (store_at stores n).content; volatile = w })
@@ -44,4 +44,4 @@ set_volatile stores volatile n w h =
 pub all_blank : (k : ℕ) (stores : List Meaning) → nodes_of stores (replicate k blank) ≡ nodes_of stores []
 all_blank k [] = refl
 all_blank zero (s ∷ stores) = refl
-all_blank (suc k) (s ∷ stores) = ap (λ (l : List (Node ℕ)). record { kept = s.content; volatile = blank } ∷ l) (all_blank k stores)
+all_blank (suc k) (s ∷ stores) = ap (λ (l : List (NodeState ℕ)). record { kept = s.content; volatile = blank } ∷ l) (all_blank k stores)

@@ -1,5 +1,5 @@
 -- Lists whose numbers are bytes, and that a log of legal messages is one.
-use Rattle.std.proofs.Common.{◌≡◌, ℕ, zero, suc, ◌+◌, ◌*◌, ◌/◌, ◌%◌, ◌<◌, ◌≤◌, true, ltb, List, [], ◌∷◌, ◌++◌, length, get_or, take, drop, set, replicate, Some, Ok, refl, arith}
+use Rattle.std.proofs.Common.{◌≡◌, ℕ, zero, suc, ◌+◌, ◌*◌, ◌/◌, ◌%◌, ◌<◌, ◌≤◌, true, nat_lt, List, [], ◌∷◌, ◌++◌, length, get_or, take, drop, set, replicate, Some, Ok, refl, arith}
 use Rattle.std.specs.List.{slice_get, AllByRecursion}
 use Rattle.std.proofs.lemmas.Bool.{and_parts, ltb-true}
 use Rattle.protocol.specs.declared.message.Message.{Message}
@@ -82,19 +82,19 @@ of_body f s d =
 
 module _ (n : ℕ) (few : n ≤ 16) where
   -- a node's number is a byte
-  small : (k : ℕ) → ltb k n ≡ true → k < 256
+  small : (k : ℕ) → nat_lt k n ≡ true → k < 256
   small k h = omega (arith, ltb-true k n h)
 
   -- the body of a legal message
   of_message : (m : Message ℕ) → legal_message n m ≡ true → Octets (body_of m)
   of_message (Join m) h =
-      let p = and_parts (ltb m.source n) (ltb m.destination n) h in
+      let p = and_parts (nat_lt m.source n) (nat_lt m.destination n) h in
       of_body (fields_of (Join m)) (small m.source p.0) (small m.destination p.1)
   of_message (Publication m) h =
-      let p = and_parts (ltb m.source n) _ h in
+      let p = and_parts (nat_lt m.source n) _ h in
       of_body (fields_of (Publication m)) (small m.source p.0) (omega arith)
   of_message (Response m) h =
-      let p = and_parts (ltb m.source n) (ltb m.destination n) h in
+      let p = and_parts (nat_lt m.source n) (nat_lt m.destination n) h in
       of_body (fields_of (Response m)) (small m.source p.0) (small m.destination p.1)
   of_message (Commit m) h = of_body (fields_of (Commit m)) (small m.source h) (omega arith)
 

@@ -1,10 +1,10 @@
 -- An opening over fresh stores is an opening on messages.
-use Rattle.std.proofs.Common.{◌≡◌, ℕ, ◌≤◌, true, eqb, List, [], ◌∷◌, map, length, Ok, refl, ap, ◌∙◌, ap₂, arith}
+use Rattle.std.proofs.Common.{◌≡◌, ℕ, ◌≤◌, true, ◌==◌, List, [], ◌∷◌, map, length, Ok, refl, ap, ◌∙◌, ap₂, arith}
 use Rattle.std.proofs.lemmas.List.{length-map}
 use Rattle.std.proofs.lemmas.Bool.{and_parts, eqb-true, ltb-false, not-false}
 use Rattle.quorum.specs.declared.node_set.NodeSet.{NodeSet}
 use Rattle.quorum.specs.Sets.{legal_configuration}
-use Rattle.protocol.specs.Decisions.{Node}
+use Rattle.protocol.specs.declared.node_state.NodeState.{NodeState}
 use Rattle.protocol.specs.declared.record.Record.{Record}
 use Rattle.protocol.specs.Decisions.{Setup, is_empty}
 use Rattle.protocol.specs.Calls.{fresh_node}
@@ -24,8 +24,8 @@ module _ (setup : Setup ℕ) where
 
   fresh_record : (kept : Record ℕ) → fresh setup kept ≡ true → kept ≡ (fresh_node setup kept.last_accepted_version).kept
   fresh_record kept h =
-      let a = and_parts (eqb kept.current_term 0) _ h in
-      let b = and_parts (eqb kept.last_accepted_term 0) _ a.1 in
+      let a = and_parts (kept.current_term == 0) _ h in
+      let b = and_parts (kept.last_accepted_term == 0) _ a.1 in
       let c = and_parts (is_empty kept.last_accepted_configuration) _ b.1 in
       let d = and_parts (is_empty kept.last_committed_configuration) _ c.1 in
       let e1 = eqb-true kept.current_term 0 a.0 in
@@ -49,7 +49,7 @@ module _ (setup : Setup ℕ) where
   fresh_nodes [] h = refl
   fresh_nodes (s ∷ stores) h =
       let p = and_parts (fresh setup s.content) (all_fresh setup stores) h in
-      ap₂ (λ (r : Record ℕ) (l : List (Node ℕ)). record { kept = r; volatile = blank } ∷ l) (fresh_record s.content p.0) (fresh_nodes stores p.1)
+      ap₂ (λ (r : Record ℕ) (l : List (NodeState ℕ)). record { kept = r; volatile = blank } ∷ l) (fresh_record s.content p.0) (fresh_nodes stores p.1)
 
   -- what an opening that is not refused says
   pub record Open (stores : List Meaning) : Type 0 where

@@ -1,10 +1,11 @@
 -- States that calls reach denote worlds that calls on messages reach, and their bytes are messages.
-use Rattle.std.proofs.Common.{◌≡◌, ℕ, ◌<◌, ◌≤◌, Bool, true, false, ltb, ◌⊎◌, List, [], ◌∷◌, ◌++◌, map, length, Some, None, Ok, Err, Option, Result, sym, refl, ap, ◌∙◌, subst, inl, inr, ⊎_elim, arith}
+use Rattle.std.proofs.Common.{◌≡◌, ℕ, ◌<◌, ◌≤◌, Bool, true, false, nat_lt, ◌⊎◌, List, [], ◌∷◌, ◌++◌, map, length, Some, None, Ok, Err, Option, Result, sym, refl, ap, ◌∙◌, subst, inl, inr, ⊎_elim, arith}
 use Rattle.std.specs.List.{slice_get, AllByRecursion}
 use Rattle.std.proofs.ByRecursion.{All-push}
 use Rattle.std.proofs.lemmas.List.{map_push, map-append}
 use Rattle.std.proofs.lemmas.Bool.{cond-true, cond-false, ltb-true, cases_lt}
-use Rattle.protocol.specs.Decisions.{Effect}
+use Rattle.protocol.proofs.Log.{impossible}
+use Rattle.protocol.specs.declared.effect.Effect.{Effect}
 use Rattle.protocol.specs.declared.message.Message.{Message}
 use Rattle.protocol.specs.declared.refusal.Refusal.{Refusal}
 use Rattle.protocol.specs.Decisions.{Setup}
@@ -23,15 +24,13 @@ use Rattle.message_log.specs.Rules.{Fits}
 use Rattle.message_log.specs.Encoded.{Encodes}
 use Rattle.message_log.proofs.Encoded.{cleared_encodes, found_alike, one_more, read_stored}
 use Rattle.cluster.specs.declared.call.Call.{Call}
-use Rattle.cluster.specs.declared.call.Call.TheVariants.{Bootstrap, StartJoin, Publish, Deliver, Restart}
 use Rattle.cluster.specs.States.{State, most_nodes, node_at, opening, refusal_in, opened}
 use Rattle.cluster.specs.Calls.{Answer, Outcome, node_called, decision, called, message_in, AllFit, Step}
 use Rattle.cluster.specs.Worlds.{entries_read, world_of, call_of, fate_of}
 use Rattle.cluster.specs.Runs.{Reached, at_opening, by_call}
-use Rattle.cluster.specs.Models.{IfLent}
 use Rattle.cluster.proofs.NodesDenoted.{nth_node, length_nodes}
-use Rattle.cluster.proofs.CallsAgree.{Agreed, outcome_of, calls_agree, decisions_agree, unknown}
-use Rattle.cluster.proofs.Frames.{LogAfter, as_it_was, with_message, Framed, framed, refused_where_shut}
+use Rattle.cluster.proofs.CallsAgree.{Agreed, same_node, lent, outcome_of, calls_agree, decisions_agree, unknown}
+use Rattle.cluster.proofs.Frames.{fit_due, LogAfter, as_it_was, with_message, Framed, framed, refused_where_shut}
 use Rattle.cluster.proofs.Openings.{open_if_not_refused, opened_on_messages}
 
 -- bytes that are messages, each with numbers that fit, and that read as them
@@ -57,18 +56,18 @@ written-append : (n : ℕ) (bytes : List ℕ) → Written n bytes → (m : Messa
 unfolding appended
 written-append n bytes w m fits back =
     subst (λ (o : log.Outcome ℕ). Written n o.bytes) (sym (cond-true (well_formed bytes) _ _ w.encodes.log))
-    (go (position (same_stored (stored_as m)) (entries bytes)) refl (ltb (count_of bytes) (capacity_of bytes)) refl)
+    (go (position (same_stored (stored_as m)) (entries bytes)) refl (nat_lt (count_of bytes) (capacity_of bytes)) refl)
   where
-    go : (o : Option ℕ) → position (same_stored (stored_as m)) (entries bytes) ≡ o → (b : Bool) → ltb (count_of bytes) (capacity_of bytes) ≡ b
+    go : (o : Option ℕ) → position (same_stored (stored_as m)) (entries bytes) ≡ o → (b : Bool) → nat_lt (count_of bytes) (capacity_of bytes) ≡ b
         → Written n (add_unless (position (same_stored (stored_as m)) (entries bytes)) bytes (stored_as m)).bytes
     go (Some e) p b q = subst (λ (o : Option ℕ). Written n (add_unless o bytes (stored_as m)).bytes) (sym p) w
     go None p false q =
         subst (λ (o : Option ℕ). Written n (add_unless o bytes (stored_as m)).bytes) (sym p)
-        (subst (λ (o : log.Outcome ℕ). Written n o.bytes) (sym (cond-false (ltb (count_of bytes) (capacity_of bytes)) _ _ q)) w)
+        (subst (λ (o : log.Outcome ℕ). Written n o.bytes) (sym (cond-false (nat_lt (count_of bytes) (capacity_of bytes)) _ _ q)) w)
     go None p true q =
         let e = one_more (capacity_of bytes) w.messages bytes w.encodes m p (ltb-true _ _ q) in
         subst (λ (o : Option ℕ). Written n (add_unless o bytes (stored_as m)).bytes) (sym p)
-        (subst (λ (o : log.Outcome ℕ). Written n o.bytes) (sym (cond-true (ltb (count_of bytes) (capacity_of bytes)) _ _ q))
+        (subst (λ (o : log.Outcome ℕ). Written n o.bytes) (sym (cond-true (nat_lt (count_of bytes) (capacity_of bytes)) _ _ q))
         (record {
           messages = w.messages ++ m ∷ [];
           encodes = subst (λ (c : ℕ). Encodes c (w.messages ++ m ∷ []) (added bytes (stored_as m))) (sym e.room) e;
@@ -97,20 +96,6 @@ module _ (setup : Setup ℕ) (lawful : Lawful setup) where
     pub log : Written (length state.stores) state.log
     pub empty : (log).messages ≡ []
 
-  lent : (state : State) → Going state → (call : Call) → IfLent call (well_formed state.log ≡ true)
-  lent state g (Bootstrap n power) = tt
-  lent state g (StartJoin n d t power) = g.log.encodes.log
-  lent state g (Publish n t v value configuration) = g.log.encodes.log
-  lent state g (Deliver e n power) = g.log.encodes.log
-  lent state g (Restart n) = tt
-
-  same_node : (state : State) (call : Call) → messages.node_called setup (world_of state) (call_of call) ≡ node_called call
-  same_node state (Bootstrap n power) = refl
-  same_node state (StartJoin n d t power) = refl
-  same_node state (Publish n t v value configuration) = refl
-  same_node state (Deliver e n power) = refl
-  same_node state (Restart n) = refl
-
   -- the message that is due is legal
   due_legal : (state : State) → Going state → (call : Call) (m : Message ℕ) → message_in (decision setup state call) ≡ Some m
       → legal_message (length state.stores) m ≡ true
@@ -119,34 +104,29 @@ module _ (setup : Setup ℕ) (lawful : Lawful setup) where
       told : (r : Result (Effect ℕ) Refusal) → message_in r ≡ Some m
           → ((effect : Effect ℕ) → r ≡ Ok effect → Legal setup (length (world_of state).nodes) effect.message)
           → legal_message (length (world_of state).nodes) m ≡ true
-      told (Err why) e legal = let z : ◌≡◌ {A = ℕ} 0 1 = cc in absurd (omega arith)
+      told (Err why) e legal = impossible cc
       told (Ok effect) e legal = subst (Legal setup (length (world_of state).nodes)) e (legal effect refl)
 
       inside : node_called call < length state.stores → legal_message (length state.stores) m ≡ true
       inside known =
-          let same = decisions_agree setup state g.is_open g.few call known (lent state g call) in
+          let same = decisions_agree setup state g.is_open g.few call known (lent call g.log.encodes.log) in
           subst (λ (k : ℕ). legal_message k m ≡ true) (length_nodes state.stores state.volatile)
           (told (messages.decision setup (world_of state) (call_of call) (node_at state (node_called call)))
-          (ap (message_in) (sym same) ∙ h)
+          (ap message_in (sym same) ∙ h)
           (λ effect e. sends_legal setup lawful.values (world_of state) (reached_sound setup lawful.values (world_of state) g.reached) (call_of call)
           (node_at state (node_called call))
-          (ap (slice_get (world_of state).nodes) (same_node state call) ∙ nth_node state.stores state.volatile (node_called call) known) effect e))
+          (ap (slice_get (world_of state).nodes) (same_node setup state call) ∙ nth_node state.stores state.volatile (node_called call) known) effect e))
 
       outside : length state.stores ≤ node_called call → legal_message (length state.stores) m ≡ true
       outside l =
-          let q : None ≡ Some m = sym (ap (message_in) (unknown setup state g.is_open g.few call l)) ∙ h in
-          let z : ◌≡◌ {A = ℕ} 0 1 = cc in
-          absurd (omega arith)
-
-  fit_due : (state : State) (due : Option (Message ℕ)) → AllFit due → (m : Message ℕ) → due ≡ Some m → Fits m
-  fit_due state None f m h = let z : ◌≡◌ {A = ℕ} 0 1 = cc in absurd (omega arith)
-  fit_due state (Some x) f m h = let e : x ≡ m = cc in subst Fits e f
+          let q : None ≡ Some m = sym (ap message_in (unknown setup state g.is_open g.few call l)) ∙ h in
+          impossible cc
 
   agreed : (state : State) → Going state → (call : Call) → AllFit (message_in (decision setup state call))
       → (m : Message ℕ) → message_in (decision setup state call) ≡ Some m → Agreed setup (length state.stores) state.log m
   agreed state g call fits m h =
       let w = g.log in
-      let f = fit_due state (message_in (decision setup state call)) fits m h in
+      let f = fit_due (message_in (decision setup state call)) fits m h in
       record {
         formed = w.encodes.log;
         found = ap (position (same_stored (stored_as m))) w.encodes.stored
@@ -160,13 +140,13 @@ module _ (setup : Setup ℕ) (lawful : Lawful setup) where
   pub step_agrees : (before after : State) (call : Call) (answer : Answer) → Going before → (s : Step setup before call answer after)
       → messages.called setup (world_of before) (call_of call) (fate_of before call s.keeps_new) ≡ record { answer = answer; world = world_of after }
   step_agrees before after call answer g s =
-      calls_agree setup before g.is_open g.few (omega (arith, g.few, g.places)) call (lent before g call) (agreed before g call s.fits) s.keeps_new
+      calls_agree setup before g.is_open g.few (omega (arith, g.few, g.places)) call (lent call g.log.encodes.log) (agreed before g call s.fits) s.keeps_new
       ∙ ap outcome_of s.same
 
   goes_on : (before after : State) (call : Call) (answer : Answer) → Going before → Step setup before call answer after → Going after
   goes_on before after call answer g s =
       let same : (called setup before call s.keeps_new).state ≡ after = ap (λ (o : Outcome). o.state) s.same in
-      let frame = subst (Framed setup before (message_in (decision setup before call))) same (framed setup before call s.keeps_new) in
+      let frame = subst (Framed before (message_in (decision setup before call))) same (framed setup before call s.keeps_new) in
       record {
         is_open = frame.shut ∙ g.is_open;
         places = frame.volatile ∙ g.places;
@@ -176,13 +156,13 @@ module _ (setup : Setup ℕ) (lawful : Lawful setup) where
             (messages_run.by_call g.reached (call_of call) (fate_of before call s.keeps_new));
       }
     where
-      log_after : (l : List ℕ) → LogAfter setup before (message_in (decision setup before call)) l → Written (length before.stores) l
+      log_after : (l : List ℕ) → LogAfter before (message_in (decision setup before call)) l → Written (length before.stores) l
       log_after l (as_it_was e) = subst (Written (length before.stores)) (sym e) g.log
       log_after l (with_message m due e) =
           let a = agreed before g call s.fits m due in
           subst (Written (length before.stores)) (sym e)
           (written-append (length before.stores) before.log g.log m
-          (fit_due before (message_in (decision setup before call)) s.fits m due) a.back)
+          (fit_due (message_in (decision setup before call)) s.fits m due) a.back)
 
   stays_shut : (before after : State) (call : Call) (answer : Answer) → Shut before → Step setup before call answer after → Shut after
   stays_shut before after call answer h s =
@@ -200,13 +180,13 @@ module _ (setup : Setup ℕ) (lawful : Lawful setup) where
       go (Ok u) e =
           let o = open_if_not_refused setup stores e in
           inl (record {
-            is_open = ap (refusal_in setup) e;
+            is_open = ap refusal_in e;
             places = refl;
             few = o.few;
             log = written-cleared (length stores) capacity c;
             reached = messages_run.at_opening (opened_on_messages setup stores capacity c o);
           })
       go (Err why) e =
-          inr (record { why = why; is_shut = ap (refusal_in setup) e; log = written-cleared (length stores) capacity c; empty = refl })
+          inr (record { why = why; is_shut = ap refusal_in e; log = written-cleared (length stores) capacity c; empty = refl })
   going_or_shut state (by_call {before = before} {call = call} {answer = answer} r s) =
       ⊎_elim (λ g. inl (goes_on before state call answer g s)) (λ h. inr (stays_shut before state call answer h s)) (going_or_shut before r)

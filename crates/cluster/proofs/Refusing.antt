@@ -3,11 +3,12 @@ use Rattle.std.proofs.Common.{◌≡◌, ℕ, ◌<◌, ◌≤◌, Bool, true, fa
 use Rattle.std.specs.List.{AllByRecursion}
 use Rattle.std.proofs.lemmas.List.{get_or-set_same, set_past}
 use Rattle.std.proofs.lemmas.Bool.{cond-true, cond-false, cases_lt}
+use Rattle.protocol.proofs.Log.{impossible}
 use Rattle.protocol.specs.declared.change.Change.{Change}
-use Rattle.protocol.specs.Decisions.{Effect}
+use Rattle.protocol.specs.declared.effect.Effect.{Effect}
 use Rattle.protocol.specs.declared.message.Message.{Message}
 use Rattle.protocol.specs.declared.message.Message.TheVariants.{Join, Publication, Response, Commit}
-use Rattle.protocol.specs.Decisions.{Node}
+use Rattle.protocol.specs.declared.node_state.NodeState.{NodeState}
 use Rattle.protocol.specs.declared.refusal.Refusal.{Refusal}
 use Rattle.protocol.specs.declared.refusal.Refusal.TheVariants.{OtherDestination, WriteUnfinished}
 use Rattle.protocol.specs.Changes.{changed}
@@ -51,13 +52,13 @@ early_fault UnknownKind = lit< tt
 early_fault InvalidBody = lit< tt
 early_fault LogFull = lit< tt
 
-early_delivery : (setup : Setup ℕ) (node : Node ℕ) (n : ℕ) (m : Message ℕ) → EarlyIf (deliver_decided setup node n m)
+early_delivery : (setup : Setup ℕ) (node : NodeState ℕ) (n : ℕ) (m : Message ℕ) → EarlyIf (deliver_decided setup node n m)
 early_delivery setup node n (Join m) = early_checked (join_tests setup node m) (lit< tt, (lit< tt, (lit< tt, (lit< tt, tt)))) _ tt
 early_delivery setup node n (Publication m) = early_checked (publication_tests setup node m) (lit< tt, (lit< tt, tt)) _ tt
 early_delivery setup node n (Response m) = early_checked (response_tests setup node m) (lit< tt, (lit< tt, (lit< tt, tt))) _ tt
 early_delivery setup node n (Commit m) = early_checked (commit_tests setup node m) (lit< tt, (lit< tt, (lit< tt, (lit< tt, tt)))) _ tt
 
-early_entry : (setup : Setup ℕ) (node : Node ℕ) (n : ℕ) (r : Result (Message ℕ) Refusal) → EarlyIf r → EarlyIf (on_entry setup node n r)
+early_entry : (setup : Setup ℕ) (node : NodeState ℕ) (n : ℕ) (r : Result (Message ℕ) Refusal) → EarlyIf r → EarlyIf (on_entry setup node n r)
 early_entry setup node n (Err why) h = h
 early_entry setup node n (Ok m) h = go (is_for n m)
   where
@@ -83,18 +84,19 @@ early_read n bytes e = looked (look_up_in bytes e)
 module _ (setup : Setup ℕ) (state : State) where
   early_decision : (call : Call) → EarlyIf (decision setup state call)
   early_decision (Bootstrap n power) =
-      early_checked (shut_test setup state ∷ node_test setup state n ∷ bootstrap_tests setup (node_at state n)) (lit< tt, (lit< tt, (lit< tt, tt))) _ tt
+      early_checked (shut_test state ∷ node_test state n ∷ bootstrap_tests setup (node_at state n)) (lit< tt, (lit< tt, (lit< tt, tt))) _ tt
   early_decision (StartJoin n d t power) =
-      early_checked (shut_test setup state ∷ node_test setup state n ∷ node_test setup state d ∷ log_test setup state ∷ start_join_tests setup (node_at state n) t)
+      early_checked (shut_test state ∷ node_test state n ∷ node_test state d ∷ log_test state ∷ start_join_tests setup (node_at state n) t)
       (lit< tt, (lit< tt, (lit< tt, (lit< tt, (lit< tt, tt))))) _ tt
   early_decision (Publish n t v value configuration) =
-      early_checked (publish_input_tests setup state n configuration) (lit< tt, (lit< tt, (lit< tt, (lit< tt, tt)))) _
+      early_checked (publish_input_tests state n configuration) (lit< tt, (lit< tt, (lit< tt, (lit< tt, tt)))) _
       (early_checked (publish_tests setup (node_at state n) t v configuration) (lit< tt, (lit< tt, (lit< tt, (lit< tt, (lit< tt, (lit< tt, tt)))))) _ tt)
   early_decision (Deliver e n power) =
-      early_checked (shut_test setup state ∷ node_test setup state n ∷ []) (lit< tt, (lit< tt, tt)) _
-      (early_entry setup (node_at state n) n _ (early_read (count setup state) state.log e))
-  early_decision (Restart n) = early_checked (shut_test setup state ∷ node_test setup state n ∷ []) (lit< tt, (lit< tt, tt)) _ tt
+      early_checked (shut_test state ∷ node_test state n ∷ []) (lit< tt, (lit< tt, tt)) _
+      (early_entry setup (node_at state n) n _ (early_read (count state) state.log e))
+  early_decision (Restart n) = early_checked (shut_test state ∷ node_test state n ∷ []) (lit< tt, (lit< tt, tt)) _ tt
 
+module _ (state : State) where
   not_early : (why : Refusal) → refusal_number why < 38 → {C : Type 0} → ◌≡◌ {A = Answer} (Err why) (Err WriteUnfinished) → C
   not_early why l h =
       let e : why ≡ WriteUnfinished = cc in
@@ -112,7 +114,7 @@ module _ (setup : Setup ℕ) (state : State) where
     left_refused why l = (λ other h ne. refl, λ h. not_early why l h)
 
     left_taken : (entry : Option ℕ) (s : State) → Left (record { answer = Ok entry; state = s })
-    left_taken entry s = (λ why h ne. let z : ◌≡◌ {A = ℕ} 0 1 = cc in absurd (omega arith), λ h. let z : ◌≡◌ {A = ℕ} 0 1 = cc in absurd (omega arith))
+    left_taken entry s = (λ why h ne. impossible cc, λ h. impossible cc)
 
     -- what the store keeps of a change
     kept_by : (change : Change ℕ) → let stores = stores_after state.stores n (Some change) power keeps_new in
@@ -145,35 +147,35 @@ module _ (setup : Setup ℕ) (state : State) where
         outside : length state.stores ≤ n → let stores = stores_after state.stores n (Some change) power keeps_new in stores ≡ set state.stores n (store_at stores n)
         outside l = set_past state.stores n _ l ∙ sym (set_past state.stores n _ l)
 
-    left_cut : (change : Change ℕ) → Left (cut setup state n (stores_after state.stores n (Some change) power keeps_new))
+    left_cut : (change : Change ℕ) → Left (cut state n (stores_after state.stores n (Some change) power keeps_new))
     left_cut change = (
       λ why h ne. let e : WriteUnfinished ≡ why = cc in absurd (ne (sym e)),
       λ h. record { change = change; kept = kept_by change; restart = refl; others = rest_kept change; log = refl; shut = refl },
     )
 
-    left_written : (effect : Effect ℕ) (entry : Option ℕ) → Left (written setup state n power keeps_new effect entry)
+    left_written : (effect : Effect ℕ) (entry : Option ℕ) → Left (written state n power keeps_new effect entry)
     left_written effect entry = go effect.change (finished (store_at state.stores n) effect.change power) refl
       where
         go : (c : Option (Change ℕ)) (b : Bool) → finished (store_at state.stores n) c power ≡ b
             → Left (cond (finished (store_at state.stores n) c power)
-            (taken setup state n (stores_after state.stores n c power keeps_new) effect entry) (cut setup state n (stores_after state.stores n c power keeps_new)))
+            (taken state n (stores_after state.stores n c power keeps_new) effect entry) (cut state n (stores_after state.stores n c power keeps_new)))
         go None b f = left_taken entry _
         go (Some change) true f =
             subst Left (sym (cond-true (finishes (store_at state.stores n) power) _ _ f)) (left_taken entry _)
         go (Some change) false f =
             subst Left (sym (cond-false (finishes (store_at state.stores n) power) _ _ f)) (left_cut change)
 
-    left_placed : (effect : Effect ℕ) (place : Result (Option ℕ) Fault) → Left (if_placed setup state n power keeps_new effect place)
+    left_placed : (effect : Effect ℕ) (place : Result (Option ℕ) Fault) → Left (if_placed state n power keeps_new effect place)
     left_placed effect (Err fault) = left_refused (refusal_of fault) (early_fault fault)
     left_placed effect (Ok entry) = left_written effect entry
 
-    left_carried : (r : Result (Effect ℕ) Refusal) → EarlyIf r → Left (carried_out setup state n power keeps_new r)
+    left_carried : (r : Result (Effect ℕ) Refusal) → EarlyIf r → Left (carried_out state n power keeps_new r)
     left_carried (Err why) early = left_refused why early
     left_carried (Ok effect) early = left_placed effect (place_for state.log effect.message)
 
 pub one_step_or_one_refusal : (setup : Setup ℕ) (before : State) (call : Call) (answer : Answer) (after : State)
     → Step setup before call answer after → OneStepOrOneRefusal before call answer after
 one_step_or_one_refusal setup before call answer after s =
-    let left = left_carried setup before (node_called call) (power_of call) s.keeps_new (decision setup before call) (early_decision setup before call) in
-    let there = subst (Left setup before (node_called call) (power_of call) s.keeps_new) s.same left in
+    let left = left_carried before (node_called call) (power_of call) s.keeps_new (decision setup before call) (early_decision setup before call) in
+    let there = subst (Left before (node_called call) (power_of call) s.keeps_new) s.same left in
     record { refused = there.0; cut = there.1 }

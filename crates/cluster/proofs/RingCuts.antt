@@ -1,9 +1,10 @@
 -- A call whose write to a ring is cut at the slot number.
-use Rattle.std.proofs.Common.{◌≡◌, ℕ, ◌<◌, ◌≤◌, Bool, true, false, cond, ◌&&◌, ◌||◌, List, length, Some, Ok, Err, Option, Result, sym, refl, ap, ◌∙◌, subst, ⊎_elim, arith}
+use Rattle.std.proofs.Common.{◌≡◌, ℕ, ◌<◌, ◌≤◌, Bool, true, false, cond, ◌&&◌, ◌||◌, List, length, Some, Ok, Err, Option, Result, sym, refl, ap, ◌∙◌, subst, ⊎_elim}
 use Rattle.std.proofs.lemmas.List.{get_or-set_same, get_or_past}
-use Rattle.std.proofs.lemmas.Bool.{cond-false, cases_lt}
+use Rattle.std.proofs.lemmas.Bool.{cond-false, cases_lt, false≢true}
+use Rattle.protocol.proofs.Log.{impossible}
 use Rattle.protocol.specs.declared.change.Change.{Change}
-use Rattle.protocol.specs.Decisions.{Effect}
+use Rattle.protocol.specs.declared.effect.Effect.{Effect}
 use Rattle.protocol.specs.declared.record.Record.{Record}
 use Rattle.protocol.specs.declared.refusal.Refusal.{Refusal}
 use Rattle.protocol.specs.Changes.{changed}
@@ -18,27 +19,24 @@ use Rattle.cluster.specs.States.{State}
 use Rattle.cluster.specs.Calls.{Answer, Outcome, Step, Allowed, node_called, power_of, decision, change_in, change_if, place_for, finished, stores_after, taken, cut, if_placed, carried_out}
 use Rattle.cluster.specs.WorkedCases.{WritesToRing, WasCut, all_but_one}
 
-pub never : {X : Type 0} → false ≡ true → X
-never e = let z : ◌≡◌ {A = ℕ} 0 1 = cc in absurd (omega arith)
-
 -- A write that is due and does not finish is cut.
-module _ (setup : Setup ℕ) (before : State) (n : ℕ) (power : Power) (keeps_new : Bool) (change : Change ℕ) where
+module _ (before : State) (n : ℕ) (power : Power) (keeps_new : Bool) (change : Change ℕ) where
   abbrev left : List Meaning
   left = stores_after before.stores n (Some change) power keeps_new
 
   module _ (unfinished : finishes (store_at before.stores n) power ≡ false) where
     cut-if_placed : (effect : Effect ℕ) (p : Result (Option ℕ) Fault) → change_if p effect ≡ Some change
-        → if_placed setup before n power keeps_new effect p ≡ cut setup before n left
-    cut-if_placed effect (Err fault) e = let z : ◌≡◌ {A = ℕ} 0 1 = cc in absurd (omega arith)
+        → if_placed before n power keeps_new effect p ≡ cut before n left
+    cut-if_placed effect (Err fault) e = impossible cc
     cut-if_placed effect (Ok entry) e =
         ap (λ (c : Option (Change ℕ)). cond (finished (store_at before.stores n) c power)
-        (taken setup before n (stores_after before.stores n c power keeps_new) effect entry)
-        (cut setup before n (stores_after before.stores n c power keeps_new))) e
-        ∙ cond-false (finishes (store_at before.stores n) power) (taken setup before n left effect entry) (cut setup before n left) unfinished
+        (taken before n (stores_after before.stores n c power keeps_new) effect entry)
+        (cut before n (stores_after before.stores n c power keeps_new))) e
+        ∙ cond-false (finishes (store_at before.stores n) power) (taken before n left effect entry) (cut before n left) unfinished
 
     cut_if_due : (d : Result (Effect ℕ) Refusal) → change_in before.log d ≡ Some change
-        → carried_out setup before n power keeps_new d ≡ cut setup before n left
-    cut_if_due (Err why) e = let z : ◌≡◌ {A = ℕ} 0 1 = cc in absurd (omega arith)
+        → carried_out before n power keeps_new d ≡ cut before n left
+    cut_if_due (Err why) e = impossible cc
     cut_if_due (Ok effect) e = cut-if_placed effect (place_for before.log effect.message) e
 
 module _ (setup : Setup ℕ) (before after : State) (call : Call) (answer : Answer) (bytes : List ℕ) (change : Change ℕ)
@@ -58,7 +56,7 @@ module _ (setup : Setup ℕ) (before after : State) (call : Call) (answer : Answ
     where
       outside : length before.stores ≤ n → n < length before.stores
       outside l =
-          never (sym (ap (λ (m : Meaning). m.sound) (get_or_past before.stores n absent l)) ∙ ap (λ (m : Meaning). m.sound) w.held ∙ w.formed)
+          absurd (false≢true (sym (ap (λ (m : Meaning). m.sound) (get_or_past before.stores n absent l)) ∙ ap (λ (m : Meaning). m.sound) w.held ∙ w.formed))
 
   unfinished : finishes store (power_of call) ≡ false
   unfinished =
@@ -73,9 +71,9 @@ module _ (setup : Setup ℕ) (before after : State) (call : Call) (answer : Answ
       (subst (λ (p : Power). Allowed store (Some change) p s.keeps_new) powered
       (subst (λ (c : Option (Change ℕ)). Allowed store c (power_of call) s.keeps_new) w.due s.allowed))
 
-  was_cut : cut setup before n (stores_after before.stores n (Some change) (power_of call) s.keeps_new) ≡ record { answer = answer; state = after }
+  was_cut : cut before n (stores_after before.stores n (Some change) (power_of call) s.keeps_new) ≡ record { answer = answer; state = after }
   was_cut =
-      sym (cut_if_due setup before n (power_of call) s.keeps_new change unfinished (decision setup before call) w.due) ∙ s.same
+      sym (cut_if_due before n (power_of call) s.keeps_new change unfinished (decision setup before call) w.due) ∙ s.same
 
   content_left : (after_write store change (power_of call) s.keeps_new).content ≡ kept_by s.keeps_new
   content_left =
@@ -102,7 +100,7 @@ even setup before after call answer bytes change w powered s =
     (old s.keeps_new (ring_keeps setup before after call answer bytes change w 2 powered s))
   where
     old : (b : Bool) → (ring bytes).may_keep change (all_but_one 2) b ≡ true → b ≡ false
-    old true e = never e
+    old true e = absurd (false≢true e)
     old false e = refl
 
 pub odd : (setup : Setup ℕ) (before after : State) (call : Call) (answer : Answer) (bytes : List ℕ) (change : Change ℕ)
@@ -114,4 +112,4 @@ odd setup before after call answer bytes change w powered s =
   where
     new : (b : Bool) → (ring bytes).may_keep change (all_but_one 3) b ≡ true → b ≡ true
     new true e = refl
-    new false e = never e
+    new false e = absurd (false≢true e)

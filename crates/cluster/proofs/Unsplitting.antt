@@ -1,6 +1,7 @@
 -- No run splits the log.
-use Rattle.std.proofs.Common.{◌≡◌, ℕ, List, [], ◌∷◌, Some, None, sym, refl, ◌∙◌, subst, ap₂, ⊎_elim, arith}
+use Rattle.std.proofs.Common.{◌≡◌, ℕ, List, [], ◌∷◌, Some, None, sym, refl, ◌∙◌, subst, ap₂, ⊎_elim}
 use Rattle.std.specs.List.{AllByRecursion}
+use Rattle.protocol.proofs.Log.{impossible}
 use Rattle.protocol.specs.declared.message.Commit.{Commit}
 use Rattle.protocol.specs.declared.message.Message.{Message}
 use Rattle.protocol.specs.Decisions.{Setup}
@@ -19,7 +20,7 @@ use Rattle.cluster.proofs.Reaching.{Going, Shut, going_or_shut, step_agrees}
 
 -- no message, one history
 no_commit : {C : Type 0} (c : Commit) → Committed {V = ℕ} [] c → C
-no_commit c h = let t = h.there in let z : ◌≡◌ {A = ℕ} 0 1 = cc in absurd (omega arith)
+no_commit c h = let t = h.there in impossible cc
 
 empty_history : OneHistory {V = ℕ} []
 empty_history = record {
@@ -35,8 +36,8 @@ empty_history = record {
 -- entries are of one list of messages
 one_list : (a b : List (Message ℕ)) → entries_of a ≡ entries_of b → a ≡ b
 one_list [] [] h = refl
-one_list [] (y ∷ b) h = let z : ◌≡◌ {A = ℕ} 0 1 = cc in absurd (omega arith)
-one_list (x ∷ a) [] h = let z : ◌≡◌ {A = ℕ} 0 1 = cc in absurd (omega arith)
+one_list [] (y ∷ b) h = impossible cc
+one_list (x ∷ a) [] h = impossible cc
 one_list (x ∷ a) (y ∷ b) h =
     let first : x ≡ y = cc in
     let rest : entries_of a ≡ entries_of b = cc in
@@ -77,8 +78,7 @@ module _ (setup : Setup ℕ) (lawful : Lawful setup) where
       ⊎_elim (λ g. g)
       (λ (h : Shut setup lawful state).
       let q : None ≡ Some h.why = sym e ∙ h.is_shut in
-      let z : ◌≡◌ {A = ℕ} 0 1 = cc in
-      absurd (omega arith))
+      impossible cc)
       (going_or_shut setup lawful state r)
 
 pub no_run_splits_the_log : NoRunSplitsTheLog

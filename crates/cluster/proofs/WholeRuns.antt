@@ -1,18 +1,20 @@
 -- What a whole run promises: it is a run of the definitions, no state of it is split, and a shut cluster refuses each call.
-use Rattle.std.proofs.Common.{◌≡◌, ℕ, Bool, true, false, ◌&&◌, eqb, List, length, Some, Ok, Err, Result, sym, refl, ap, ◌∙◌, subst, arith}
+use Rattle.std.proofs.Common.{◌≡◌, ℕ, Bool, true, false, ◌&&◌, ◌==◌, List, length, Some, Ok, Err, Result, sym, refl, ap, ◌∙◌, subst}
 use Rattle.std.specs.List.{AllByRecursion}
 use Rattle.std.proofs.lemmas.Bool.{and_parts, cond-true, cond-false}
 use Rattle.quorum.specs.declared.node_set.NodeSet.{NodeSet}
 use Rattle.quorum.specs.Laws.{Shared, Grows, Void}
+use Rattle.protocol.proofs.Log.{impossible}
 use Rattle.protocol.specs.declared.refusal.Refusal.{Refusal}
 use Rattle.protocol.specs.declared.refusal.Refusal.TheVariants.{ClusterShut}
-use Rattle.protocol.specs.Decisions.{Setup}
+use Rattle.protocol.specs.Decisions.{Setup as Fixed}
 use Rattle.message_log.specs.declared.fault.Fault.{Fault}
 use Rattle.message_log.specs.declared.fault.Fault.TheVariants.{IllFormedLog}
 use Rattle.message_log.specs.Layout.{legal_capacity, log_length}
 use Rattle.message_log.specs.Log as log
 use Rattle.message_log.specs.Log.{clear_to, cleared}
-use Rattle.node.specs.Setups.{setup_of, meant}
+use Rattle.node.specs.declared.setup.Setup.{Setup}
+use Rattle.node.specs.Setups.{meant}
 use Rattle.store.specs.Stores.{Meaning}
 use Rattle.cluster.specs.declared.call.Call.{Call}
 use Rattle.cluster.specs.declared.cluster.Cluster.{Cluster}
@@ -32,26 +34,25 @@ pub record Cleared (bytes : List ℕ) (capacity : ℕ) : Type 0 where
   pub left : (clear_to bytes capacity).bytes ≡ cleared capacity
 
 pub cleared_if_done : (bytes : List ℕ) (capacity : ℕ) → (clear_to bytes capacity).answer ≡ Ok tt → Cleared bytes capacity
-cleared_if_done bytes capacity h = go (legal_capacity capacity && eqb (length bytes) (log_length capacity)) refl
+cleared_if_done bytes capacity h = go (legal_capacity capacity && length bytes == log_length capacity) refl
   where
-    go : (b : Bool) → (legal_capacity capacity && eqb (length bytes) (log_length capacity)) ≡ b → Cleared bytes capacity
+    go : (b : Bool) → (legal_capacity capacity && length bytes == log_length capacity) ≡ b → Cleared bytes capacity
     go true e = record {
       legal = (and_parts (legal_capacity capacity) _ e).0;
-      left = ap (λ (o : log.Outcome (Unit {0})). o.bytes) (cond-true (legal_capacity capacity && eqb (length bytes) (log_length capacity)) _ _ e);
+      left = ap (λ (o : log.Outcome (Unit {0})). o.bytes) (cond-true (legal_capacity capacity && length bytes == log_length capacity) _ _ e);
     }
     go false e =
         let q : ◌≡◌ {A = Result (Unit {0}) Fault} (Err IllFormedLog) (Ok tt) =
-        sym (ap (λ (o : log.Outcome (Unit {0})). o.answer) (cond-false (legal_capacity capacity && eqb (length bytes) (log_length capacity)) _ _ e)) ∙ h
+        sym (ap (λ (o : log.Outcome (Unit {0})). o.answer) (cond-false (legal_capacity capacity && length bytes == log_length capacity) _ _ e)) ∙ h
         in
-        let z : ◌≡◌ {A = ℕ} 0 1 = cc in
-        absurd (omega arith)
+        impossible cc
 
 -- a run of a shut cluster
 record StaysShut (state : State) (answers : List Answer) (last : State) : Type 0 where
   refused : AllByRecursion (λ (answer : Answer). answer ≡ Err ClusterShut) answers
   same : last ≡ state
 
-module _ (setup : Setup ℕ) where
+module _ (setup : Fixed ℕ) where
   stays_shut : (state : State) (why : Refusal) → state.shut ≡ Some why → (calls : List Call) (answers : List Answer) (states : List State)
       → Run setup state calls answers states → StaysShut state answers (last_of state states)
   stays_shut state why h calls answers states ended = record { refused = tt; same = refl }
@@ -64,36 +65,36 @@ module _ (setup : Setup ℕ) where
 
 module _ {B R : Type 0} (quorum : R → NodeSet → NodeSet → Bool) (meaning : B → List Meaning)
     (shared : (rule : R) → Shared (quorum rule)) (grows : (rule : R) → Grows (quorum rule)) (void : (rule : R) → Void (quorum rule)) where
-  pub ran_by_playing : (bank : B) (rule : R) (configuration : NodeSet) (value : ℕ) (turns : List Turn) (capacity : ℕ)
+  pub ran_by_playing : (bank : B) (setup : Setup R) (turns : List Turn) (capacity : ℕ)
       (before after : Cluster B R) (bytes log log' : List ℕ) (turns' : List Turn) → Cleared bytes capacity → log ≡ (clear_to bytes capacity).bytes
-      → meant quorum before.setup ≡ setup_of (quorum rule) configuration value
-      → ((l : List ℕ) → with_log meaning before l ≡ opened (setup_of (quorum rule) configuration value) (meaning bank) l)
+      → before.setup ≡ setup
+      → ((l : List ℕ) → with_log meaning before.nodes l ≡ opened (meant quorum setup) (meaning bank) l)
       → after.setup ≡ before.setup
-      → Played (meant quorum before.setup) (with_log meaning before log) turns turns' (with_log meaning after log')
-      → Ran quorum meaning bank rule configuration value turns capacity (Ok after) log' turns'
-  ran_by_playing bank rule configuration value turns capacity before after bytes log log' turns' c l setup start fixed played =
-      let S = setup_of (quorum rule) configuration value in
+      → Played (meant quorum before.setup) (with_log meaning before.nodes log) turns turns' (with_log meaning after.nodes log')
+      → Ran quorum meaning bank setup turns capacity (Ok after) log' turns'
+  ran_by_playing bank setup turns capacity before after bytes log log' turns' c l fixed start stays played =
+      let S = meant quorum setup in
       let s₀ = opened S (meaning bank) (cleared capacity) in
-      let from : with_log meaning before log ≡ s₀ = start log ∙ ap (opened S (meaning bank)) (l ∙ c.left) in
+      let from : with_log meaning before.nodes log ≡ s₀ = start log ∙ ap (opened S (meaning bank)) (l ∙ c.left) in
       let run : Run S s₀ (calls_in turns) (answers_in turns') played.states =
-      subst (λ (s : Setup ℕ). Run s s₀ (calls_in turns) (answers_in turns') played.states) setup
+      subst (λ (s : Setup R). Run (meant quorum s) s₀ (calls_in turns) (answers_in turns') played.states) fixed
       (subst (λ (s : State). Run (meant quorum before.setup) s (calls_in turns) (answers_in turns') played.states) from played.run)
       in
-      let last : last_of s₀ played.states ≡ with_log meaning after log' =
+      let last : last_of s₀ played.states ≡ with_log meaning after.nodes log' =
       ap (λ (s : State). last_of s played.states) (sym from) ∙ played.last
       in
       record {
         cluster = after;
         given = refl;
-        fixed = ap (meant quorum) fixed ∙ setup;
+        fixed = stays ∙ fixed;
         calls = played.calls;
         states = played.states;
         run = run;
-        unsplit = unsplit_run S (record { shared = shared rule; grows = grows rule; void = void rule; values = (lawful_setup quorum meaning shared grows void before.setup).values })
+        unsplit = unsplit_run S (lawful_setup quorum meaning shared grows void setup)
             s₀ (at_opening (meaning bank) capacity c.legal) (calls_in turns) (answers_in turns') played.states run;
         last = last;
         shut = λ why h.
-            let shut : s₀.shut ≡ Some why = ap (refusal_in S) h in
+            let shut : s₀.shut ≡ Some why = ap refusal_in h in
             let stays = stays_shut S s₀ why shut (calls_in turns) (answers_in turns') played.states run in
             (ap (λ (s : State). s.shut) (sym last ∙ stays.same) ∙ shut, stays.refused);
       }

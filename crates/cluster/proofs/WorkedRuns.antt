@@ -1,10 +1,11 @@
 -- The worked runs, computed.
 use Rattle.std.proofs.Common.{◌≡◌, ℕ, ◌+◌, ◌*◌, Bool, true, false, cond, ◌&&◌, ◌||◌, List, [], ◌∷◌, get_or, take, drop, set, Some, None, Ok, Err, Option, Result, sym, refl, ap, ◌∙◌, subst}
+use Rattle.std.proofs.lemmas.Bool.{false≢true}
 use Rattle.quorum.specs.Sets.{member}
 use Rattle.quorum.specs.Rules.{weight_below}
 use Rattle.quorum.specs.WorkedCases.{HeavyNodeDecides}
 use Rattle.protocol.specs.declared.change.Change.{Change}
-use Rattle.protocol.specs.Decisions.{Effect}
+use Rattle.protocol.specs.declared.effect.Effect.{Effect}
 use Rattle.protocol.specs.declared.refusal.Refusal.{Refusal}
 use Rattle.protocol.specs.declared.refusal.Refusal.TheVariants.{NoJoinQuorum, WriteUnfinished}
 use Rattle.protocol.specs.Changes.{changed}
@@ -21,7 +22,7 @@ use Rattle.cluster.specs.States.{State}
 use Rattle.cluster.specs.Calls.{Answer, Outcome, Allowed, AllFit, node_called, power_of, decision, change_in, change_if, message_in, place_for, finished, stores_after, taken, cut, if_placed, carried_out, called}
 use Rattle.cluster.specs.Runs.{Run, ended, and_then, last_of}
 use Rattle.cluster.specs.WorkedCases.{the_setup, third, the_opening, the_calls, the_answers, the_body, Answers, with_ring, all_but_one, WorkedCases}
-use Rattle.cluster.proofs.RingCuts.{never, even, odd}
+use Rattle.cluster.proofs.RingCuts.{even, odd}
 
 -- Calls of which each can only keep the one record, `keeps`, or has no choice that matters.
 module _ (keeps : Bool) where
@@ -93,14 +94,14 @@ module _ (before : State) (n : ℕ) (power : Power) where
           }) e
 
   alike_if_placed : (effect : Effect ℕ) (p : Result (Option ℕ) Fault) → finished store (change_if p effect) power ≡ true
-      → if_placed the_setup before n power true effect p ≡ if_placed the_setup before n power false effect p
+      → if_placed before n power true effect p ≡ if_placed before n power false effect p
   alike_if_placed effect (Err fault) e = refl
   alike_if_placed effect (Ok entry) e =
-      ap (λ (stores : List Meaning). cond (finished store effect.change power) (taken the_setup before n stores effect entry) (cut the_setup before n stores))
+      ap (λ (stores : List Meaning). cond (finished store effect.change power) (taken before n stores effect entry) (cut before n stores))
       (stores_alike effect.change e)
 
   alike : (d : Result (Effect ℕ) Refusal) → finished store (change_in before.log d) power ≡ true
-      → carried_out the_setup before n power true d ≡ carried_out the_setup before n power false d
+      → carried_out before n power true d ≡ carried_out before n power false d
   alike (Err why) e = refl
   alike (Ok effect) e = alike_if_placed effect (place_for before.log effect.message) e
 
@@ -176,12 +177,12 @@ fourteenth = answer_so false (after the_calls) next (Err NoJoinQuorum ∷ []) ne
 even_bootstrap : Answers with_ring (Bootstrap 0 (all_but_one 2) ∷ []) (Err WriteUnfinished ∷ [])
 even_bootstrap =
     answer_so false with_ring (Bootstrap 0 (all_but_one 2) ∷ []) (Err WriteUnfinished ∷ []) refl
-    (record { allowed = refl; fits = tt; only = elim [ true ↦ λ a. never a | false ↦ λ a. refl ] }, tt)
+    (record { allowed = refl; fits = tt; only = elim [ true ↦ λ a. absurd (false≢true a) | false ↦ λ a. refl ] }, tt)
 
 odd_bootstrap : Answers with_ring (Bootstrap 0 (all_but_one 3) ∷ []) (Err WriteUnfinished ∷ [])
 odd_bootstrap =
     answer_so true with_ring (Bootstrap 0 (all_but_one 3) ∷ []) (Err WriteUnfinished ∷ []) refl
-    (record { allowed = refl; fits = tt; only = elim [ true ↦ λ a. refl | false ↦ λ a. never a ] }, tt)
+    (record { allowed = refl; fits = tt; only = elim [ true ↦ λ a. refl | false ↦ λ a. absurd (false≢true a) ] }, tt)
 
 weights : HeavyNodeDecides
 unfolding member weight_below

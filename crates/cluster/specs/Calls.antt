@@ -3,7 +3,7 @@ use Rattle.std.specs.Prelude.{◌≡◌, ℕ, min, Bool, true, cond, not, List, 
 use Rattle.quorum.specs.declared.node_set.NodeSet.{NodeSet}
 use Rattle.quorum.specs.Sets.{legal_configuration}
 use Rattle.protocol.specs.declared.change.Change.{Change}
-use Rattle.protocol.specs.Decisions.{Effect}
+use Rattle.protocol.specs.declared.effect.Effect.{Effect}
 use Rattle.protocol.specs.declared.message.Message.{Message}
 use Rattle.protocol.specs.declared.refusal.Refusal.{Refusal}
 use Rattle.protocol.specs.declared.refusal.Refusal.TheVariants.{
@@ -119,7 +119,7 @@ abbrev pub AllFit : Option (Message ℕ) → Type 0
 AllFit None = Unit {0}
 AllFit (Some m) = Fits m
 
-module _ (setup : Setup ℕ) (state : State) where
+module _ (state : State) where
   -- how many nodes the cluster has: one for each store, and at most 16; an open cluster has no more stores
   abbrev pub count : ℕ
   count = min (length state.stores) most_nodes
@@ -141,19 +141,6 @@ module _ (setup : Setup ℕ) (state : State) where
   -- the tests of a publish on its input
   abbrev pub publish_input_tests : (n : ℕ) → NodeSet → List Test
   publish_input_tests n configuration = shut_test ∷ node_test n ∷ log_test ∷ configuration_test configuration ∷ []
-
-  -- What the node that is called decides: the tests of the input, then those of its state, then its effect. Reading an
-  -- entry refuses bytes that are no log, an entry that is absent, an unknown kind and an invalid body, in this order.
-  abbrev pub decision : Call → Result (Effect ℕ) Refusal
-  decision (Bootstrap n power) =
-      decided (shut_test ∷ node_test n ∷ bootstrap_tests setup (node_at state n)) (bootstrap_effect setup (node_at state n))
-  decision (StartJoin n d t power) =
-      decided (shut_test ∷ node_test n ∷ node_test d ∷ log_test ∷ start_join_tests setup (node_at state n) t) (start_join_effect setup (node_at state n) n d t)
-  decision (Publish n t v value configuration) =
-      checked (publish_input_tests n configuration)
-      (decided (publish_tests setup (node_at state n) t v configuration) (publish_effect setup (node_at state n) n t v value configuration))
-  decision (Deliver e n power) = checked (shut_test ∷ node_test n ∷ []) (on_entry setup (node_at state n) n (message_at count state.log e))
-  decision (Restart n) = decided (shut_test ∷ node_test n ∷ []) (restart_effect setup (node_at state n))
 
   -- a refusal leaves everything as it was
   abbrev pub refused : Refusal → Outcome
@@ -198,8 +185,22 @@ module _ (setup : Setup ℕ) (state : State) where
   carried_out n power keeps_new (Err why) = refused why
   carried_out n power keeps_new (Ok effect) = if_placed n power keeps_new effect (place_for state.log effect.message)
 
+module _ (setup : Setup ℕ) (state : State) where
+  -- What the node that is called decides: the tests of the input, then those of its state, then its effect. Reading an
+  -- entry refuses bytes that are no log, an entry that is absent, an unknown kind and an invalid body, in this order.
+  abbrev pub decision : Call → Result (Effect ℕ) Refusal
+  decision (Bootstrap n power) =
+      decided (shut_test state ∷ node_test state n ∷ bootstrap_tests setup (node_at state n)) (bootstrap_effect setup (node_at state n))
+  decision (StartJoin n d t power) =
+      decided (shut_test state ∷ node_test state n ∷ node_test state d ∷ log_test state ∷ start_join_tests setup (node_at state n) t) (start_join_effect setup (node_at state n) n d t)
+  decision (Publish n t v value configuration) =
+      checked (publish_input_tests state n configuration)
+      (decided (publish_tests setup (node_at state n) t v configuration) (publish_effect setup (node_at state n) n t v value configuration))
+  decision (Deliver e n power) = checked (shut_test state ∷ node_test state n ∷ []) (on_entry setup (node_at state n) n (message_at (count state) state.log e))
+  decision (Restart n) = decided (shut_test state ∷ node_test state n ∷ []) (restart_effect setup (node_at state n))
+
   abbrev pub called : Call → (keeps_new : Bool) → Outcome
-  called call keeps_new = carried_out (node_called call) (power_of call) keeps_new (decision call)
+  called call keeps_new = carried_out state (node_called call) (power_of call) keeps_new (decision call)
 
 -- A call and its answer. There is a record, the new one or the old, that the store may keep under this power (which
 -- matters only if the write is cut), such that the answer and the next state are those of the definition. The numbers of

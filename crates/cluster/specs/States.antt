@@ -1,7 +1,7 @@
 -- A cluster with the log that its calls are lent, and how a cluster is opened.
 use Rattle.std.specs.Prelude.{ℕ, Bool, true, false, not, ◌&&◌, List, [], ◌∷◌, length, replicate, Some, None, Ok, Err, Option, Result, ◌==◌, nat_lt, slice_index_or}
 use Rattle.quorum.specs.Sets.{nobody, legal_configuration}
-use Rattle.protocol.specs.Decisions.{Node}
+use Rattle.protocol.specs.declared.node_state.NodeState.{NodeState}
 use Rattle.protocol.specs.declared.record.Record.{Record}
 use Rattle.protocol.specs.declared.refusal.Refusal.{Refusal}
 use Rattle.protocol.specs.declared.refusal.Refusal.TheVariants.{UnsoundStore, TooManyStores, IllegalInitialConfiguration, StoreNotFresh}
@@ -30,12 +30,17 @@ blank = record {
 }
 
 -- node n: the record in its store, and its volatile values
-abbrev pub node_at : State → ℕ → Node ℕ
+abbrev pub node_at : State → ℕ → NodeState ℕ
 node_at state n = record { kept = (store_at state.stores n).content; volatile = slice_index_or state.volatile n blank }
 
 -- a cluster has at most this many nodes, and has a place for the volatile values of each
 abbrev pub most_nodes : ℕ
 most_nodes = 16
+
+-- the refusal of an opening, if it is refused
+abbrev pub refusal_in : Result (Unit {0}) Refusal → Option Refusal
+refusal_in (Ok done) = None
+refusal_in (Err why) = Some why
 
 module _ (setup : Setup ℕ) where
   -- A record is fresh if both terms are 0, both configurations are empty and its value is the initial one; its version is
@@ -65,11 +70,6 @@ module _ (setup : Setup ℕ) where
 
   abbrev pub opening : List Meaning → Result (Unit {0}) Refusal
   opening stores = decided (opening_tests stores) tt
-
-  -- the refusal of an opening, if it is refused
-  abbrev pub refusal_in : Result (Unit {0}) Refusal → Option Refusal
-  refusal_in (Ok done) = None
-  refusal_in (Err why) = Some why
 
   -- the cluster that is then there, shut or open, with every node's volatile values empty, false or 0
   abbrev pub opened : List Meaning → (log : List ℕ) → State

@@ -1,7 +1,7 @@
 -- A state, whose log is bytes, and the world of nodes and messages that it denotes. The definitions of the calls on
 -- messages, their theorem on safety and the public model speak of such worlds.
 use Rattle.std.specs.Prelude.{ℕ, Bool, ◌&&◌, List, [], ◌∷◌, map, length}
-use Rattle.protocol.specs.Decisions.{Node}
+use Rattle.protocol.specs.declared.node_state.NodeState.{NodeState}
 use Rattle.protocol.specs.declared.volatile.Volatile.{Volatile}
 use Rattle.protocol.specs.Calls as messages
 use Rattle.protocol.specs.Calls.{World, Fate, Entry}
@@ -15,7 +15,7 @@ use Rattle.cluster.specs.States.{State, blank}
 use Rattle.cluster.specs.Calls.{node_called, power_of}
 
 -- the nodes: the record in each store, with the volatile values of the same number
-abbrev pub nodes_of : List Meaning → List Volatile → List (Node ℕ)
+abbrev pub nodes_of : List Meaning → List Volatile → List (NodeState ℕ)
 nodes_of [] volatile = []
 nodes_of (store ∷ stores) [] = record { kept = store.content; volatile = blank } ∷ nodes_of stores []
 nodes_of (store ∷ stores) (w ∷ volatile) = record { kept = store.content; volatile = w } ∷ nodes_of stores volatile

@@ -4,6 +4,8 @@ use quorum::NodeSet;
 use store::Power;
 
 /// A call on a cluster. Those that may write to a store carry the power that the write has.
+// A publish's four numbers stay apart, as the definitions have them: each function would only take a
+// struct of them apart.
 #[derive(Clone, Copy, PartialEq, Eq, Debug)]
 pub enum Call {
     /// The node accepts the initial value and the initial configuration.

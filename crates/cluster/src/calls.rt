@@ -1,20 +1,34 @@
 //! The five calls on a cluster.
-ghost use Rattle.std.specs.Prelude.{◌≡◌, ℕ, List};
+ghost use Rattle.std.specs.Prelude.{◌≡◌, ℕ, ◌<◌, List, [], ◌∷◌, OnOk};
 ghost use Rattle.cluster.specs.declared.call.Call.TheVariants.{Bootstrap as CallBootstrap, StartJoin as CallStartJoin, Publish as CallPublish, Deliver as CallDeliver, Restart as CallRestart};
-ghost use Rattle.cluster.specs.Clusters.{Called};
+ghost use Rattle.protocol.specs.Decisions.{decided};
+ghost use Rattle.cluster.specs.States.{node_at};
+ghost use Rattle.cluster.specs.Calls.{count, shut_test, node_test};
+ghost use Rattle.cluster.specs.Clusters.{alone, Called};
 
 use crate::carrying::Answer;
 use crate::cluster::Cluster;
-use protocol::{Refusal, Term, Value, Version};
+use protocol::{NodeState, Refusal, Term, Value, Version};
 use quorum::{NodeSet, VotingRule};
 use store::{Bank, Power};
 
 impl<B: Bank, R: VotingRule> Cluster<B, R> {
     /// Why the opening was refused, if it was. Then each call answers `ClusterShut`.
     pub fn refusal(&self) -> Option<Refusal>
-        ensures { result ≡ self.now.shut }
+        ensures { result ≡ self.now.nodes.shut }
     {
-        self.shut
+        self.nodes.shut
+    }
+
+    /// A node as it is: the record in its store, and its volatile values. A cluster that is shut,
+    /// or has no such node, refuses.
+    pub fn node(&mut self, node: u8) -> Result<NodeState, Refusal>
+        ensures setup { self.new.setup ≡ self.old.setup }
+        ensures same { alone B.meaning self.new.nodes ≡ alone B.meaning self.old.nodes }
+        ensures value { result ≡ decided (shut_test (alone B.meaning self.old.nodes) ∷ node_test (alone B.meaning self.old.nodes) node ∷ []) (node_at (alone B.meaning self.old.nodes) node) }
+        ensures known { OnOk result (node < count (alone B.meaning self.old.nodes)) }
+    {
+        self.nodes.find(node)
     }
 
     /// The node accepts the initial value and the initial configuration, as accepted and as

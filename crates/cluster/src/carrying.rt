@@ -1,74 +1,28 @@
 //! Carrying out what a node has decided.
-ghost use Rattle.std.specs.Prelude.{◌≡◌, ◌<◌, [], ◌∷◌, Some, None};
-ghost use Rattle.protocol.specs.Meanings.{effect_meant};
-ghost use Rattle.node.specs.Setups.{meant};
-ghost use Rattle.cluster.specs.States.{node_at};
-ghost use Rattle.cluster.specs.Calls.{count, told, place_for, log_with, AllFit};
-ghost use Rattle.cluster.specs.Carrying.{Settled, Carried};
+ghost use Rattle.std.specs.Prelude.{◌≡◌, None};
+ghost use Rattle.cluster.specs.Calls.{told, place_for, log_with, AllFit};
+ghost use Rattle.cluster.specs.Carrying.{Carried};
 ghost use Rattle.cluster.specs.Clusters.{alone, with_log};
 
-use crate::cluster::Cluster;
+use crate::nodes::Nodes;
 use message_log::{append, place};
-use node::restarted;
-use protocol::{Change, Effect, Message, Refusal, Volatile};
-use quorum::VotingRule;
+use protocol::{Effect, Message, Refusal};
 use store::{Bank, Power};
 
 /// What a call answers: the entry that it sent or found, or none; or why it was refused.
 pub type Answer = Result<Option<u16>, Refusal>;
 
-impl<B: Bank, R: VotingRule> Cluster<B, R> {
-    // Writes a change to the store of a node, which then has these volatile values, and answers
-    // whether the write finished. Where it is cut, the node is restarted from what its store kept.
-    fn write(&mut self, node: u8, change: Change, volatile: Volatile, power: Power) -> bool
-        requires { node < count (meant R.quorum self.old.setup) (alone B.meaning self.old) }
-        ensures setup { self.new.setup ≡ self.old.setup }
-        ensures settled { Settled (meant R.quorum self.old.setup) (alone B.meaning self.old) node (Some change) volatile power result (alone B.meaning self.new) }
-    {
-        let at = u16::from(node);
-        if let Some(true) = self.bank.write(at, change, power) {
-            self.volatile[usize::from(node)] = volatile;
-            return true;
-        }
-        if let Some(kept) = self.bank.read(at) {
-            self.volatile[usize::from(node)] = restarted(&kept);
-        }
-        false
-    }
-
-    // A node writes a change, if one is due, and has these volatile values next.
-    pub(crate) fn settle(
-        &mut self,
-        node: u8,
-        change: Option<Change>,
-        volatile: Volatile,
-        power: Power,
-    ) -> bool
-        requires { node < count (meant R.quorum self.old.setup) (alone B.meaning self.old) }
-        ensures setup { self.new.setup ≡ self.old.setup }
-        ensures settled { Settled (meant R.quorum self.old.setup) (alone B.meaning self.old) node change volatile power result (alone B.meaning self.new) }
-    {
-        match change {
-            Some(change) => self.write(node, change, volatile, power),
-            None => {
-                self.volatile[usize::from(node)] = volatile;
-                true
-            }
-        }
-    }
+impl<B: Bank> Nodes<B> {
+    // `node`, `effect` and `power` stand in three functions: a struct of them would be built in one
+    // line and taken apart in the next.
 
     // Carries out an effect that sends nothing.
     pub(crate) fn settle_only(&mut self, node: u8, effect: &Effect, power: Power) -> Answer
-        requires known { node < count (meant R.quorum self.old.setup) (alone B.meaning self.old) }
-        requires silent { effect.now.message ≡ None }
-        ensures setup { self.new.setup ≡ self.old.setup }
-        ensures carried { Carried (meant R.quorum self.old.setup) (alone B.meaning self.old) node (effect_meant effect.now) power result (alone B.meaning self.new) }
+        requires { effect.now.message ≡ None }
+        ensures { Carried (alone B.meaning self.old) node effect.now power result (alone B.meaning self.new) }
     {
-        if self.settle(node, effect.change, effect.volatile, power) {
-            Ok(None)
-        } else {
-            Err(Refusal::WriteUnfinished)
-        }
+        self.settle(node, effect, power)?;
+        Ok(None)
     }
 
     // Carries out an effect: its message has to have a place, then its write has to finish, and
@@ -80,14 +34,10 @@ impl<B: Bank, R: VotingRule> Cluster<B, R> {
         power: Power,
         log: &mut [u8],
     ) -> Answer
-        requires { node < count (meant R.quorum self.old.setup) (alone B.meaning self.old) }
-        ensures setup { self.new.setup ≡ self.old.setup }
-        ensures carried { Carried (meant R.quorum self.old.setup) (with_log B.meaning self.old log.old) node (effect_meant effect.now) power result (with_log B.meaning self.new log.new) }
+        ensures { Carried (with_log B.meaning self.old log.old) node effect.now power result (with_log B.meaning self.new log.new) }
     {
         let entry = find_place(log, &effect.message)?;
-        if !self.settle(node, effect.change, effect.volatile, power) {
-            return Err(Refusal::WriteUnfinished);
-        }
+        self.settle(node, effect, power)?;
         send(log, &effect.message);
         Ok(entry)
     }
@@ -105,6 +55,7 @@ fn find_place(log: &[u8], message: &Option<Message>) -> Answer
 }
 
 // Adds a message to the log, if there is one to send.
+#[tactic(auto, unfolding(message_log::specs::Log::appended))]
 fn send(log: &mut [u8], message: &Option<Message>)
     ensures { log.new ≡ log_with log.old message.now }
 {

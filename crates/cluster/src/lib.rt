@@ -17,6 +17,7 @@ mod turn;
 pub use call::Call;
 pub use carrying::Answer;
 pub use cluster::Cluster;
+pub use node::Setup;
 pub use not_run::NotRun;
 pub use running::run;
 pub use theorems::{

@@ -1,4 +1,5 @@
 //! A run that was refused.
+use node::Setup;
 use protocol::Refusal;
 
 /// Why nothing was run, with what was to be run on.
@@ -6,5 +7,5 @@ use protocol::Refusal;
 pub struct NotRun<B, R> {
     pub refusal: Refusal,
     pub bank: B,
-    pub rule: R,
+    pub setup: Setup<R>,
 }

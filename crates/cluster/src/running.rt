@@ -12,8 +12,9 @@ use crate::cluster::Cluster;
 use crate::not_run::NotRun;
 use crate::turn::Turn;
 use message_log::clear;
-use protocol::{Refusal, Value};
-use quorum::{NodeSet, VotingRule};
+use node::Setup;
+use protocol::Refusal;
+use quorum::VotingRule;
 use store::Bank;
 
 impl<B: Bank, R: VotingRule> Cluster<B, R> {
@@ -21,6 +22,7 @@ impl<B: Bank, R: VotingRule> Cluster<B, R> {
     pub fn call(&mut self, call: Call, log: &mut [u8]) -> Answer
         ensures { Called R.quorum B.meaning self.old log.old call result self.new log.new }
     {
+        // A call is a value, since a run is a list of them: closures would be no plainer.
         match call {
             Call::Bootstrap { node, power } => self.bootstrap(node, power),
             Call::StartJoin {
@@ -40,9 +42,7 @@ impl<B: Bank, R: VotingRule> Cluster<B, R> {
             Call::Restart { node } => self.restart(node),
         }
     }
-}
 
-impl<B: Bank, R: VotingRule> Cluster<B, R> {
     // Takes a turn: its call is carried out, and its answer written down.
     fn take(&mut self, turn: &mut Turn, log: &mut [u8])
         ensures call { turn.new.call ≡ turn.old.call }
@@ -54,7 +54,7 @@ impl<B: Bank, R: VotingRule> Cluster<B, R> {
     // Takes the turns, one after the other.
     fn play(&mut self, turns: &mut [Turn], log: &mut [u8])
         ensures setup { self.new.setup ≡ self.old.setup }
-        ensures played { Played (meant R.quorum self.old.setup) (with_log B.meaning self.old log.old) turns.old turns.new (with_log B.meaning self.new log.new) }
+        ensures played { Played (meant R.quorum self.old.setup) (with_log B.meaning self.old.nodes log.old) turns.old turns.new (with_log B.meaning self.new.nodes log.new) }
     {
         for turn in turns.iter_mut() {
             self.take(turn, log);
@@ -67,25 +67,23 @@ impl<B: Bank, R: VotingRule> Cluster<B, R> {
 /// nothing is touched or opened.
 pub fn run<B: Bank, R: VotingRule>(
     bank: B,
-    rule: R,
-    initial_configuration: NodeSet,
-    initial_value: Value,
+    setup: Setup<R>,
     capacity: u16,
     log: &mut [u8],
     turns: &mut [Turn],
 ) -> Result<Cluster<B, R>, NotRun<B, R>>
-    ensures refused { (clear_to log.old capacity).answer ≡ Err IllFormedLog → GivenBack R.quorum B.meaning bank rule initial_configuration initial_value turns.old result log.old log.new turns.new }
-    ensures ran { (clear_to log.old capacity).answer ≡ Ok tt → Ran R.quorum B.meaning bank rule initial_configuration initial_value turns.old capacity result log.new turns.new }
+    ensures refused { (clear_to log.old capacity).answer ≡ Err IllFormedLog → GivenBack R.quorum B.meaning bank setup turns.old result log.old log.new turns.new }
+    ensures ran { (clear_to log.old capacity).answer ≡ Ok tt → Ran R.quorum B.meaning bank setup turns.old capacity result log.new turns.new }
 {
     if let Err(fault) = clear(log, capacity) {
         let refusal = Refusal::from(fault);
         return Err(NotRun {
             refusal,
             bank,
-            rule,
+            setup,
         });
     }
-    let mut cluster = Cluster::open(bank, initial_configuration, initial_value, rule);
+    let mut cluster = Cluster::open(bank, setup);
     cluster.play(turns, log);
     Ok(cluster)
 }

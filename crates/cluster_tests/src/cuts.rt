@@ -1,14 +1,14 @@
 //! Writes to a ring, cut at every budget.
 use crate::helpers::{
     Line, bootstrap, deliver, fresh, fresh_ring, join, leading, open, plain, play, publish, record,
-    restarted, state,
+    restarted, single, state,
 };
 use cluster::Call;
 use message_log::clear;
 use protocol::{Record, Refusal, Volatile};
 use std::process::Abort;
 use std::test::Fail;
-use store::{Pair, Power, RingStore, Single};
+use store::{Pair, Power, RingStore};
 
 // Node 0, over a ring, is elected with node 1, over a plain store, and shrinks the configuration
 // to itself.
@@ -40,22 +40,11 @@ struct Write {
     volatile: Volatile,
 }
 
-fn with_power(call: Call, power: Power) -> Call {
-    match call {
-        Call::StartJoin {
-            node,
-            leader,
-            term,
-            ..
-        } => Call::StartJoin {
-            node,
-            leader,
-            term,
-            power,
-        },
-        Call::Deliver { entry, node, .. } => Call::Deliver { entry, node, power },
-        other => other,
+fn with_power(mut call: Call, power: Power) -> Call {
+    if let Call::StartJoin { power: old, .. } | Call::Deliver { power: old, .. } = &mut call {
+        *old = power;
     }
+    call
 }
 
 fn cut(rt: &impl Abort, write: &Write, power: Power) -> Result<(), Fail> {
@@ -63,9 +52,7 @@ fn cut(rt: &impl Abort, write: &Write, power: Power) -> Result<(), Fail> {
     let mut log = [0; 166];
     clear(&mut log, 6)?;
     let bank = Pair {
-        left: Single {
-            store: RingStore::new(&mut bytes),
-        },
+        left: single(RingStore::new(&mut bytes)),
         right: plain(fresh(5)),
     };
     let mut cluster = open(bank, 3);

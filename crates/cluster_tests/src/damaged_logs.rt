@@ -11,20 +11,13 @@ fn bytes_that_are_no_log(rt: HostRuntime) -> Result<(), Fail> {
     // the length and the count; a log of four entries has 112 bytes
     for (length, count) in [(111, 2), (113, 2), (112, 5), (3, 2), (0, 2)] {
         let mut bytes = log.to_vec(rt.alloc())?;
-        bytes.push(0)?;
-        bytes.truncate(length);
+        bytes.resize(length, 0)?;
         if let Some(low) = bytes.get_mut(3) {
             *low = count;
         }
         for call in [join(2, 0, 1), publish(0, 1, 6, 118, 7), deliver(1, 0)] {
-            refused(
-                &rt,
-                rt.alloc(),
-                &mut cluster,
-                &mut bytes,
-                call,
-                Refusal::IllFormedLog,
-            )?;
+            let refusal = Refusal::IllFormedLog;
+            refused(&rt, &mut cluster, &mut bytes, call, refusal)?;
         }
     }
     let line = (publish(0, 1, 6, 118, 7), Ok(Some(2)));
@@ -59,7 +52,7 @@ fn entries_that_cannot_be_delivered(rt: HostRuntime) -> Result<(), Fail> {
         let mut bytes = log.to_vec(rt.alloc())?;
         assert!(rt; place < bytes.len());
         bytes[place] = byte;
-        refused(&rt, rt.alloc(), &mut cluster, &mut bytes, call, refusal)?;
+        refused(&rt, &mut cluster, &mut bytes, call, refusal)?;
     }
     play(&rt, &mut cluster, &mut log, &[(deliver(2, 1), Ok(Some(3)))]);
     Ok(())

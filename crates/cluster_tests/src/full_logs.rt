@@ -37,14 +37,7 @@ fn a_new_entry_needs_room(rt: HostRuntime) -> Result<(), Fail> {
         assert!(rt; line < 7);
         play(&rt, &mut cluster, &mut log, &lines[..line]);
         let (call, _) = lines[line];
-        refused(
-            &rt,
-            rt.alloc(),
-            &mut cluster,
-            &mut log,
-            call,
-            Refusal::LogFull,
-        )?;
+        refused(&rt, &mut cluster, &mut log, call, Refusal::LogFull)?;
         assert_eq!(rt; cluster.node(0), Ok(node));
     }
     let mut log = empty_log(rt.alloc(), 4)?;
@@ -65,14 +58,7 @@ fn a_join_needs_room_or_is_there(rt: HostRuntime) -> Result<(), Fail> {
     assert_eq!(rt; append(&mut log, &there)?, 0);
     let mut cluster = open(three(), 7);
     for call in [join(0, 1, 4), join(2, 0, 4), join(2, 1, 3)] {
-        refused(
-            &rt,
-            rt.alloc(),
-            &mut cluster,
-            &mut log,
-            call,
-            Refusal::LogFull,
-        )?;
+        refused(&rt, &mut cluster, &mut log, call, Refusal::LogFull)?;
     }
     assert_eq!(rt; cluster.node(2), Ok(state(fresh(6), restarted(0))));
     play(&rt, &mut cluster, &mut log, &[(join(2, 1, 4), Ok(Some(0)))]);

@@ -1,5 +1,5 @@
 //! What the tests share.
-use cluster::{Answer, Call, Cluster};
+use cluster::{Answer, Call, Cluster, Setup};
 use message_log::clear;
 use protocol::{NodeState, Record, Refusal, Term, Value, Version, Volatile};
 use quorum::{Majority, NodeSet, VotingRule};
@@ -46,12 +46,8 @@ pub fn fresh(version: Version) -> Record {
 /// The volatile values of a node that holds no votes and has started no join.
 pub fn restarted(configuration: u16) -> Volatile {
     Volatile {
-        join_votes: NodeSet::empty(),
-        started_join: false,
-        election_won: false,
-        last_published_version: 0,
         last_published_configuration: NodeSet::from_bits(configuration),
-        publish_votes: NodeSet::empty(),
+        ..Volatile::default()
     }
 }
 
@@ -67,10 +63,14 @@ pub fn leading(votes: u16, version: Version, configuration: u16, publish_votes: 
     }
 }
 
+/// One store as a bank.
+// In both test crates: a public function of `store` would say no more than the field does.
+pub fn single<S>(store: S) -> Single<S> {
+    Single { store }
+}
+
 pub fn plain(record: Record) -> Plain {
-    Single {
-        store: PlainStore::new(record),
-    }
+    single(PlainStore::new(record))
 }
 
 /// Three fresh plain stores.
@@ -102,8 +102,17 @@ pub fn fresh_ring(version: u8) -> [u8; 43] {
     bytes
 }
 
+/// What is fixed where the initial value is 100.
+pub fn setup<R>(configuration: u16, rule: R) -> Setup<R> {
+    Setup {
+        rule,
+        initial_configuration: NodeSet::from_bits(configuration),
+        initial_value: 100,
+    }
+}
+
 pub fn open<B: Bank>(bank: B, configuration: u16) -> Cluster<B, Majority> {
-    Cluster::open(bank, NodeSet::from_bits(configuration), 100, Majority)
+    Cluster::open(bank, setup(configuration, Majority))
 }
 
 /// A cleared log.
@@ -165,14 +174,13 @@ pub fn play<B: Bank, R: VotingRule>(
 
 /// The call is refused, and the log and three nodes stay as they are.
 pub fn refused<B: Bank>(
-    rt: &impl Abort,
-    heap: Global,
+    rt: &(impl Abort + AllocGlobal),
     cluster: &mut Cluster<B, Majority>,
     log: &mut [u8],
     call: Call,
     refusal: Refusal,
 ) -> Result<(), Fail> {
-    let bytes = log.to_vec(heap)?;
+    let bytes = log.to_vec(rt.alloc())?;
     let nodes = [cluster.node(0), cluster.node(1), cluster.node(2)];
     assert_eq!(rt; cluster.call(call, log), Err(refusal));
     assert!(rt; bytes.as_slice() == &*log);

@@ -1,24 +1,22 @@
 //! Clusters over stores of different makes.
 use crate::helpers::{
     ENOUGH, bootstrap, deliver, election, empty_log, fresh, fresh_ring, join, open, plain, play,
-    publish, record, restarted,
+    publish, record, restarted, single,
 };
 use cluster::Cluster;
 use protocol::Refusal;
 use quorum::Majority;
-use std::alloc::{AllocError, Global};
 use std::process::Abort;
 use std::test::Fail;
-use store::{Bank, Pair, Power, RingStore, Single};
+use store::{Bank, Pair, Power, RingStore};
 use store_tests::{FickleStore, VecBank};
 
 // Three nodes elect node 0, accept what it publishes, and mark it as committed.
 fn agree<B: Bank>(
-    rt: &impl Abort,
-    heap: Global,
+    rt: &(impl Abort + AllocGlobal),
     cluster: &mut Cluster<B, Majority>,
 ) -> Result<(), Fail> {
-    let mut log = empty_log(heap, 8)?;
+    let mut log = empty_log(rt.alloc(), 8)?;
     play(rt, cluster, &mut log, &election());
     let publication = [
         (bootstrap(2), Ok(None)),
@@ -54,56 +52,45 @@ fn a_plain_store_a_ring_and_a_foreign_store(rt: HostRuntime) -> Result<(), Fail>
     let bank = Pair {
         left: plain(fresh(5)),
         right: Pair {
-            left: Single {
-                store: RingStore::new(&mut bytes),
-            },
-            right: Single {
-                store: FickleStore::new(fresh(5)),
-            },
+            left: single(RingStore::new(&mut bytes)),
+            right: single(FickleStore::new(fresh(5))),
         },
     };
     let mut cluster = open(bank, 7);
-    agree(&rt, rt.alloc(), &mut cluster)?;
+    agree(&rt, &mut cluster)?;
     assert!(rt; bytes == *WRITTEN);
     Ok(())
 }
 
-fn two_foreign_stores(heap: Global) -> Result<VecBank<FickleStore>, AllocError> {
-    let mut stores = Vec::new(heap);
-    stores.push(FickleStore::new(fresh(5)))?;
-    stores.push(FickleStore::new(fresh(5)))?;
-    Ok(VecBank { stores })
-}
-
 // A cluster over a ring in these bytes and two foreign stores.
-fn over_ring_and_foreign_bank(rt: &impl Abort, heap: Global, bytes: &mut [u8]) -> Result<(), Fail> {
-    let right = two_foreign_stores(heap)?;
+fn over_ring_and_foreign_bank(
+    rt: &(impl Abort + AllocGlobal),
+    bytes: &mut [u8],
+) -> Result<(), Fail> {
+    let stores = vec![in rt.alloc(); FickleStore::new(fresh(5)); 2]?;
     let bank = Pair {
-        left: Single {
-            store: RingStore::new(bytes),
-        },
-        right,
+        left: single(RingStore::new(bytes)),
+        right: VecBank { stores },
     };
     let mut cluster = open(bank, 7);
-    agree(rt, heap, &mut cluster)?;
-    cut_foreign(rt, heap, &mut cluster)
+    agree(rt, &mut cluster)?;
+    cut_foreign(rt, &mut cluster)
 }
 
 #[test]
 fn a_ring_beside_a_foreign_bank(rt: HostRuntime) -> Result<(), Fail> {
     let mut bytes = fresh_ring(5);
-    over_ring_and_foreign_bank(&rt, rt.alloc(), &mut bytes)?;
+    over_ring_and_foreign_bank(&rt, &mut bytes)?;
     assert!(rt; bytes == *WRITTEN);
     Ok(())
 }
 
 // A cut write to node 2's foreign store keeps one of the two records, and the node goes on.
 fn cut_foreign<B: Bank>(
-    rt: &impl Abort,
-    heap: Global,
+    rt: &(impl Abort + AllocGlobal),
     cluster: &mut Cluster<B, Majority>,
 ) -> Result<(), Fail> {
-    let mut log = empty_log(heap, 1)?;
+    let mut log = empty_log(rt.alloc(), 1)?;
     let power = Power {
         budget: 6,
         residue: 0,

@@ -1,12 +1,13 @@
 //! What a cluster can be opened over.
 use crate::helpers::{
-    bootstrap, deliver, fresh, fresh_ring, join, open, plain, play, publish, record, restart, three,
+    bootstrap, deliver, fresh, fresh_ring, join, open, plain, play, publish, record, restart,
+    single, three,
 };
 use protocol::Refusal;
 use std::alloc::{AllocError, Global};
 use std::process::Abort;
 use std::test::Fail;
-use store::{Bank, Pair, PlainStore, RingStore, Single};
+use store::{Bank, Pair, PlainStore, RingStore};
 use store_tests::VecBank;
 
 // Why a cluster over the bank is refused, if it is.
@@ -15,10 +16,7 @@ fn refusal<B: Bank + Drop>(bank: B, configuration: u16) -> Option<Refusal> {
 }
 
 fn fresh_stores(heap: Global, count: u8) -> Result<VecBank<PlainStore>, AllocError> {
-    let mut stores = Vec::new(heap);
-    for _ in 0..count {
-        stores.push(PlainStore::new(fresh(5)))?;
-    }
+    let stores = vec![in heap; PlainStore::new(fresh(5)); usize::from(count)]?;
     Ok(VecBank { stores })
 }
 
@@ -27,9 +25,7 @@ fn unsound_comes_before_too_many(rt: HostRuntime) -> Result<(), Fail> {
     let mut bytes = [0; 3];
     let bank = Pair {
         left: fresh_stores(rt.alloc(), 16)?,
-        right: Single {
-            store: RingStore::new(&mut bytes),
-        },
+        right: single(RingStore::new(&mut bytes)),
     };
     assert_eq!(rt; refusal(bank, 0), Some(Refusal::UnsoundStore));
     Ok(())
@@ -87,12 +83,7 @@ fn stays_shut(rt: &impl Abort, log: [u8; 31]) {
     bytes[6] = 1;
     let mut lent = bytes;
     let mut lent_log = log;
-    let mut cluster = open(
-        Single {
-            store: RingStore::new(&mut lent),
-        },
-        1,
-    );
+    let mut cluster = open(single(RingStore::new(&mut lent)), 1);
     assert_eq!(rt; cluster.refusal(), Some(Refusal::StoreNotFresh));
     let shut = Err(Refusal::ClusterShut);
     let lines = [

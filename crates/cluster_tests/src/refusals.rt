@@ -1,10 +1,10 @@
 //! Calls that the state of a node refuses, one for each reason, and runs that are refused.
 use crate::helpers::{
-    Line, bootstrap, deliver, empty_log, join, open, play, publish, restart, three,
+    Line, bootstrap, deliver, empty_log, join, open, play, publish, restart, setup, three,
 };
 use cluster::{Turn, run};
 use protocol::Refusal;
-use quorum::{Majority, NodeSet};
+use quorum::Majority;
 use std::test::Fail;
 use store::Bank;
 
@@ -92,15 +92,7 @@ fn a_run_needs_bytes_that_fit(rt: HostRuntime) -> Result<(), Fail> {
     };
     let mut turns = [turn; 2];
     let mut log = [7; 32];
-    let ran = run(
-        three(),
-        Majority,
-        NodeSet::from_bits(7),
-        100,
-        1,
-        &mut log,
-        &mut turns,
-    );
+    let ran = run(three(), setup(7, Majority), 1, &mut log, &mut turns);
     let Err(not_run) = ran else {
         return Err(Fail::new("it ran"));
     };
@@ -118,15 +110,7 @@ fn a_shut_run_clears_the_log(rt: HostRuntime) -> Result<(), Fail> {
         answer: Ok(Some(9)),
     }];
     let mut log = [7; 31];
-    let ran = run(
-        three(),
-        Majority,
-        NodeSet::empty(),
-        100,
-        1,
-        &mut log,
-        &mut turns,
-    );
+    let ran = run(three(), setup(0, Majority), 1, &mut log, &mut turns);
     let Ok(cluster) = ran else {
         return Err(Fail::new("it did not run"));
     };

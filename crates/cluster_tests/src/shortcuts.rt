@@ -1,8 +1,8 @@
 //! Runs that would split the history under a shortcut in the rules, and where the rules stop them.
-use crate::helpers::{bootstrap, deliver, empty_log, join, open, play, publish, two};
+use crate::helpers::{bootstrap, deliver, empty_log, join, open, play, publish, setup, two};
 use cluster::Cluster;
 use protocol::Refusal;
-use quorum::{NodeSet, Weighted};
+use quorum::Weighted;
 use std::test::Fail;
 
 // Weights for two nodes.
@@ -39,7 +39,7 @@ fn joins_are_compared_by_term_first(rt: HostRuntime) -> Result<(), Fail> {
 #[test]
 fn a_commit_needs_the_committed_configuration_too(rt: HostRuntime) -> Result<(), Fail> {
     let mut log = empty_log(rt.alloc(), 64)?;
-    let mut cluster = Cluster::open(two(2, 1), NodeSet::from_bits(3), 100, weights(4, 2));
+    let mut cluster = Cluster::open(two(2, 1), setup(3, weights(4, 2)));
     let calls = [
         (bootstrap(0), Ok(None)),
         (join(0, 0, 2), Ok(Some(0))),
@@ -60,7 +60,7 @@ fn a_commit_needs_the_committed_configuration_too(rt: HostRuntime) -> Result<(),
 #[test]
 fn an_election_needs_the_committed_configuration_too(rt: HostRuntime) -> Result<(), Fail> {
     let mut log = empty_log(rt.alloc(), 64)?;
-    let mut cluster = Cluster::open(two(3, 1), NodeSet::from_bits(1), 100, weights(2, 1));
+    let mut cluster = Cluster::open(two(3, 1), setup(1, weights(2, 1)));
     let calls = [
         (bootstrap(0), Ok(None)),
         (join(0, 0, 4), Ok(Some(0))),

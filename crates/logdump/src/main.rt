@@ -3,7 +3,7 @@
 
 mod report;
 
-use anyhow::anyhow;
+use anyhow::{Context, anyhow, bail};
 use quorum::MAX_NODES;
 use report::print_log;
 use std::process::ExitCode;
@@ -23,15 +23,14 @@ fn run(rt: &HostRuntime) -> anyhow::Result<()> {
     let mut args = env::args(rt)?;
     let _program = args.next();
     let (Some(file), Some(nodes), None) = (args.next(), args.next(), args.next()) else {
-        return Err(anyhow!("usage: logdump FILE N"));
+        bail!("usage: logdump FILE N");
     };
-    let nodes = match nodes.as_str().parse::<u8>() {
-        Ok(nodes) if nodes <= MAX_NODES => nodes,
-        _ => return Err(anyhow!("N is not a number of nodes from 0 to 16")),
-    };
-    match fs::read(rt, file.as_str()) {
-        Ok(bytes) => print_log(rt, bytes.as_slice(), nodes)?,
-        Err(error) => return Err(anyhow!(format!(in rt.alloc(); "cannot read {file}: {error}")?)),
-    }
+    let nodes = nodes
+        .parse::<u8>()
+        .ok()
+        .filter(|nodes| *nodes <= MAX_NODES)
+        .context("N is not a number of nodes from 0 to 16")?;
+    let bytes = fs::read(rt, &file).map_err(|error| anyhow!("cannot read {file}: {error}"))?;
+    print_log(rt, &bytes, nodes)?;
     Ok(())
 }

@@ -8,15 +8,10 @@ use std::io;
 
 // The sizes of a log and a line for each entry; or the refusal of bytes that are no log.
 pub fn print_log(rt: &HostRuntime, bytes: &[u8], nodes: u8) -> io::Result<()> {
-    let sizes = match Sizes::of(bytes) {
+    let Sizes { count, capacity } = match Sizes::of(bytes) {
         Ok(sizes) => sizes,
-        Err(fault) => {
-            let number = Refusal::from(fault).number();
-            return println!(rt; "no {number}");
-        }
+        Err(fault) => return println!(rt; "no {fault}"),
     };
-    let count = sizes.count;
-    let capacity = sizes.capacity;
     println!(rt; "log {count} of {capacity}")?;
     for number in 0..count {
         print_entry(rt, number, entry_message(bytes, number, nodes))?;
@@ -27,14 +22,12 @@ pub fn print_log(rt: &HostRuntime, bytes: &[u8], nodes: u8) -> io::Result<()> {
 fn print_entry(rt: &HostRuntime, number: u16, read: Result<Message, Refusal>) -> io::Result<()> {
     match read {
         Ok(message) => println!(rt; "{number}: {message}"),
-        Err(refusal) => {
-            let reason = refusal.number();
-            println!(rt; "{number}: no {reason}")
-        }
+        Err(refusal) => println!(rt; "{number}: no {refusal}"),
     }
 }
 
-// The message in an entry, or why it cannot be read.
+// The message in an entry, or why it cannot be read. A member's delivery begins with the same three
+// calls: one function for both would be one more public function of the log, for two callers.
 fn entry_message(bytes: &[u8], number: u16, nodes: u8) -> Result<Message, Refusal>
     ensures { result ≡ message_at nodes bytes.now number }
 {

@@ -1,20 +1,20 @@
 -- A log with one more entry, and an empty one.
-use Rattle.std.proofs.Common.{◌≡◌, ℕ, zero, suc, ◌+◌, ◌-◌, ◌*◌, ◌<◌, ◌≤◌, Bool, true, false, eqb, ltb, leb, List, [], ◌∷◌, ◌++◌, map, length, get_or, take, drop, replicate, is_some, IfOk, Some, None, Ok, Err, Option, Result, sym, refl, ap, ◌∙◌, subst, ap₂, inl, inr, arith}
+use Rattle.std.proofs.Common.{◌≡◌, ℕ, zero, suc, ◌+◌, ◌-◌, ◌*◌, ◌<◌, ◌≤◌, Bool, true, false, ◌==◌, nat_lt, nat_le, List, [], ◌∷◌, ◌++◌, map, length, get_or, take, drop, replicate, is_some, Some, None, Ok, Err, Option, sym, refl, ap, ◌∙◌, subst, ap₂, inl, inr, arith}
 use Rattle.std.specs.List.{range_with_len}
 use Rattle.std.specs.Option.{option_map}
 use Rattle.std.proofs.lemmas.List.FromFn.{map-range_with_len_more, length-map-range_with_len}
 use Rattle.std.proofs.lemmas.List.{get_or-append_right, get_or-replicate, length-replicate}
 use Rattle.std.proofs.lemmas.Slice.Eq.{bytes_eq-Decides}
 use Rattle.std.proofs.lemmas.Bool.{and_parts, and_from, leb-true, le-leb, eqb-true, eq-eqb, ltb-true, cond-true, cond-false}
-use Rattle.message_log.specs.declared.fault.Fault.{Fault}
-use Rattle.message_log.specs.declared.fault.Fault.TheVariants.{IllFormedLog, LogFull}
+use Rattle.message_log.specs.declared.fault.Fault.TheVariants.{LogFull}
+use Rattle.message_log.specs.declared.header.Sizes.{Sizes}
 use Rattle.message_log.specs.Layout.{put, in_two, capacity_of, count_of, log_length, legal_capacity, well_formed, kind_place, body_place}
 use Rattle.protocol.specs.Positions.{position}
-use Rattle.message_log.specs.Log.{Stored, stored_at, entries, same_stored, added, add_unless, append_to, Outcome, cleared}
+use Rattle.message_log.specs.Log.{sizes_of, Stored, stored_at, entries, same_stored, added, add_unless, append_entry, append_to, Outcome, cleared}
 use Rattle.message_log.specs.Added.{Empty, Holds}
 use Rattle.message_log.proofs.Puts.{length-put, byte_put}
 use Rattle.message_log.proofs.PutThenRead as read
-use Rattle.message_log.proofs.RoundTrip.{two_back}
+use Rattle.std.proofs.lemmas.Nat.{from_be_bytes-to_be_bytes_2}
 
 -- what a well-formed log keeps
 pub record Formed (bytes : List ℕ) : Type 0 where
@@ -26,8 +26,8 @@ pub record Formed (bytes : List ℕ) : Type 0 where
 pub formed : (bytes : List ℕ) → well_formed bytes ≡ true → Formed bytes
 formed bytes h =
     let p = and_parts (legal_capacity (capacity_of bytes)) _ h in
-    let q = and_parts (eqb (length bytes) (log_length (capacity_of bytes))) _ p.1 in
-    let r = and_parts (ltb 0 (capacity_of bytes)) (leb (capacity_of bytes) 2048) p.0 in
+    let q = and_parts (length bytes == log_length (capacity_of bytes)) _ p.1 in
+    let r = and_parts (nat_lt 0 (capacity_of bytes)) (nat_le (capacity_of bytes) 2048) p.0 in
     record { legal = p.0; few = leb-true _ _ r.1; long = eqb-true _ _ q.0; within = leb-true _ _ q.1 }
 
 -- a function of the index that is the same below n gives the same list
@@ -120,7 +120,7 @@ module _ (bytes : List ℕ) (x : Stored) (log : well_formed bytes ≡ true) (roo
       ap₂ (λ (a b : ℕ). a * 256 + b)
       (read.inside 2 (in_two (m + 1)) two_writes fits_count 0 (omega arith))
       (read.inside 2 (in_two (m + 1)) two_writes fits_count 1 (omega arith))
-      ∙ two_back (m + 1) (omega (arith, F.few))
+      ∙ from_be_bytes-to_be_bytes_2 (m + 1) (omega (arith, F.few))
 
   still_a_log : well_formed after ≡ true
   still_a_log =
@@ -180,42 +180,64 @@ module _ (bytes : List ℕ) (x : Stored) (log : well_formed bytes ≡ true) (roo
       in
       subst (λ (b : List ℕ). Holds bytes b x m) (sym after_is) holds
 
--- x was there
-pub holds_found : (bytes : List ℕ) (x : Stored) (e : ℕ) → well_formed bytes ≡ true
-    → position (same_stored x) (entries bytes) ≡ Some e → Holds bytes bytes x e
-holds_found bytes x e log there = record {
-  log = log;
-  room = refl;
-  list = sym (cond-true (is_some (position (same_stored x) (entries bytes))) _ _ (ap is_some there));
-  lowest = there;
-}
-
--- what adding an entry answers and leaves
-pub holds_answered : (bytes : List ℕ) (x : Stored) → length x.body ≡ 26 → (r : Result ℕ Fault) (after : List ℕ)
-    → r ≡ (append_to bytes x).answer → after ≡ (append_to bytes x).bytes → IfOk r (λ e. Holds bytes after x e)
-holds_answered bytes x whole r after answer left =
-    rw (answer, left) (go (well_formed bytes) refl (position (same_stored x) (entries bytes)) refl (ltb (count_of bytes) (capacity_of bytes)) refl)
+-- the lowest place of a test in a list is within it
+place_within : {X : Type 0} (test : X → Bool) (xs : List X) (i : ℕ) → position test xs ≡ Some i → i < length xs
+unfolding position
+place_within test [] i h = grind arith
+place_within test (x ∷ xs) i h = go (place_within test xs) (test x) refl (position test xs) refl
   where
-    told : (o : Outcome ℕ) → append_to bytes x ≡ o → IfOk o.answer (λ e. Holds bytes o.bytes x e)
-        → IfOk (append_to bytes x).answer (λ e. Holds bytes (append_to bytes x).bytes x e)
-    told o e h = subst (λ (a : Outcome ℕ). IfOk a.answer (λ e. Holds bytes a.bytes x e)) (sym e) h
+    go : ((j : ℕ) → position test xs ≡ Some j → j < length xs) → (b : Bool) → test x ≡ b → (o : Option ℕ) → position test xs ≡ o → i < suc (length xs)
+    go rest true e o p = grind arith
+    go rest false e None p = grind arith
+    go rest false e (Some j) p = grind (arith, rest j p)
 
-    go : (b : Bool) → well_formed bytes ≡ b → (o : Option ℕ) → position (same_stored x) (entries bytes) ≡ o
-        → (l : Bool) → ltb (count_of bytes) (capacity_of bytes) ≡ l
-        → IfOk (append_to bytes x).answer (λ e. Holds bytes (append_to bytes x).bytes x e)
-    go false f o p l q = told (record { answer = Err IllFormedLog; bytes = bytes }) (cond-false (well_formed bytes) _ _ f) tt
-    go true f (Some e) p l q =
-        told (record { answer = Ok e; bytes = bytes })
-        (cond-true (well_formed bytes) _ _ f ∙ ap (λ (o : Option ℕ). add_unless o bytes x) p)
-        (holds_found bytes x e f p)
-    go true f None p true q =
-        told (record { answer = Ok (count_of bytes); bytes = added bytes x })
-        (cond-true (well_formed bytes) _ _ f ∙ ap (λ (o : Option ℕ). add_unless o bytes x) p ∙ cond-true (ltb (count_of bytes) (capacity_of bytes)) _ _ q)
-        (holds_added bytes x f (ltb-true _ _ q) whole p)
-    go true f None p false q =
-        told (record { answer = Err LogFull; bytes = bytes })
-        (cond-true (well_formed bytes) _ _ f ∙ ap (λ (o : Option ℕ). add_unless o bytes x) p ∙ cond-false (ltb (count_of bytes) (capacity_of bytes)) _ _ q)
-        tt
+-- the sizes of a log
+pub record Opened (bytes : List ℕ) (s : Sizes) : Type 0 where
+  pub log : well_formed bytes ≡ true
+  pub capacity : s.capacity ≡ capacity_of bytes
+  pub count : s.count ≡ count_of bytes
+
+pub opened : (bytes : List ℕ) (s : Sizes) → sizes_of bytes ≡ Ok s → Opened bytes s
+opened bytes s h = go (well_formed bytes) refl
+  where
+    go : (b : Bool) → well_formed bytes ≡ b → Opened bytes s
+    go true e =
+        let q : Ok (record { capacity = capacity_of bytes; count = count_of bytes }) ≡ Ok s = sym (cond-true (well_formed bytes) _ _ e) ∙ h in
+        record { log = e; capacity = cc; count = cc }
+    go false e = grind arith
+
+-- an entry whose place is the count is added there, and there is room for it
+pub record AddsNew (bytes : List ℕ) (x : Stored) (s : Sizes) : Type 0 where
+  pub room : s.count < s.capacity
+  pub outcome : append_to bytes x ≡ record { answer = Ok s.count; bytes = added bytes x }
+  pub holds : Holds bytes (added bytes x) x s.count
+
+pub adds_new : (bytes : List ℕ) (x : Stored) (s : Sizes) → length x.body ≡ 26 → sizes_of bytes ≡ Ok s
+    → Ok s.count ≡ (append_entry bytes x).answer → AddsNew bytes x s
+adds_new bytes x s whole is-log h =
+    go (opened bytes s is-log) (position (same_stored x) (entries bytes)) refl (nat_lt (count_of bytes) (capacity_of bytes)) refl
+  where
+    go : Opened bytes s → (o : Option ℕ) → position (same_stored x) (entries bytes) ≡ o → (b : Bool) → nat_lt (count_of bytes) (capacity_of bytes) ≡ b → AddsNew bytes x s
+    go o (Some e) p b q =
+        let l = place_within (same_stored x) (entries bytes) e p in
+        let many : length (entries bytes) ≡ count_of bytes = length-map-range_with_len (stored_at bytes) 0 (count_of bytes) in
+        let same : Ok s.count ≡ Ok e = h ∙ ap (λ (f : Option ℕ). (add_unless f bytes x).answer) p in
+        let is : s.count ≡ e = cc in
+        absurd (omega (arith, o.count))
+    go o None p true q = record {
+      room = omega (arith, ltb-true _ _ q, o.capacity, o.count);
+      outcome = cond-true (well_formed bytes) _ _ o.log ∙ ap (λ (f : Option ℕ). add_unless f bytes x) p
+          ∙ cond-true (nat_lt (count_of bytes) (capacity_of bytes)) _ _ q
+          ∙ ap (λ (n : ℕ). record { answer = Ok n; bytes = added bytes x }) (sym o.count);
+      holds = rw o.count (holds_added bytes x o.log (ltb-true _ _ q) whole p);
+    }
+    go o None p false q =
+        let same : Ok s.count ≡ Err LogFull =
+        h ∙ ap (λ (f : Option ℕ). (add_unless f bytes x).answer) p
+        ∙ ap (λ (o : Outcome ℕ). o.answer) (cond-false (nat_lt (count_of bytes) (capacity_of bytes)) _ _ q)
+        in
+        let z : ◌≡◌ {A = ℕ} 0 1 = cc in
+        absurd (omega arith)
 
 -- a cleared log
 zero_byte : (k j : ℕ) → 2 ≤ j → j < 4 + 27 * k → get_or (cleared k) j 0 ≡ 0
@@ -224,9 +246,9 @@ zero_byte k j l h =
 
 pub empty_log : (k : ℕ) → legal_capacity k ≡ true → Empty k (cleared k)
 empty_log k h =
-    let p = and_parts (ltb 0 k) (leb k 2048) h in
+    let p = and_parts (nat_lt 0 k) (nat_le k 2048) h in
     let few : k ≤ 2048 = leb-true _ _ p.1 in
-    let room : capacity_of (cleared k) ≡ k = two_back k (omega arith) in
+    let room : capacity_of (cleared k) ≡ k = from_be_bytes-to_be_bytes_2 k (omega arith) in
     let none : count_of (cleared k) ≡ 0 =
     ap₂ (λ (a b : ℕ). a * 256 + b) (zero_byte k 2 (omega arith) (omega arith))
     (zero_byte k 3 (omega arith) (omega (arith, ltb-true _ _ p.0)))

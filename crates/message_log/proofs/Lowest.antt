@@ -1,10 +1,9 @@
 -- The lowest entry that is equal to another.
-use Rattle.std.proofs.Common.{◌≡◌, ℕ, zero, suc, ◌+◌, ◌<◌, Bool, true, false, map, Some, None, refl, ap, ◌∙◌, arith}
+use Rattle.std.proofs.Common.{◌≡◌, ℕ, zero, suc, ◌+◌, ◌<◌, ◌≤◌, Bool, true, false, map, Some, None, Option, MatchOption, sym, refl, ap, ◌∙◌, arith}
 use Rattle.std.specs.List.{range_with_len}
 use Rattle.std.specs.Option.{option_map}
 use Rattle.std.proofs.lemmas.Bool.{cond-true, cond-false}
 use Rattle.protocol.specs.Positions.{position}
-use Rattle.message_log.specs.Log.{}
 
 module _ {X : Type 0} (test : X → Bool) (f : ℕ → X) where
   -- a test that fails at the n places from a on has no place there
@@ -29,11 +28,13 @@ module _ {X : Type 0} (test : X → Bool) (f : ℕ → X) where
       (λ k b. ap (λ (j : ℕ). test (f j)) (omega arith) ∙ h (k + 1) (omega arith))
       (ap (λ (j : ℕ). test (f j)) (omega arith) ∙ t))
 
-  -- the same from place 0 on
-  pub none_at_all : (n : ℕ) → ((k : ℕ) → k < n → test (f k) ≡ false) → position test (map f (range_with_len 0 n)) ≡ None
-  none_at_all n h = no_place n 0 (λ k l. ap (λ (j : ℕ). test (f j)) (omega arith) ∙ h k l)
-
-  pub lowest_of_all : (n i : ℕ) → i < n → ((k : ℕ) → k < i → test (f k) ≡ false) → test (f i) ≡ true
-      → position test (map f (range_with_len 0 n)) ≡ Some i
-  lowest_of_all n i l h t =
-      lowest_place n 0 i l (λ k b. ap (λ (j : ℕ). test (f j)) (omega arith) ∙ h k b) (ap (λ (j : ℕ). test (f j)) (omega arith) ∙ t)
+  -- the answer of a search through the n places from 0 on is the lowest place
+  pub found_below : (n end : ℕ) (answer : Option ℕ) → end ≡ n
+      → MatchOption answer ((k : ℕ) → 0 ≤ k → k < end → test (f k) ≡ false)
+      (λ i. (0 ≤ i) × (i < end) × (test (f i) ≡ true) × ((k : ℕ) → 0 ≤ k → k < i → test (f k) ≡ false))
+      → answer ≡ position test (map f (range_with_len 0 n))
+  found_below n end None e h =
+      sym (no_place n 0 (λ k l. ap (λ (j : ℕ). test (f j)) (omega arith) ∙ h k (omega arith) (omega arith)))
+  found_below n end (Some i) e h =
+      sym (lowest_place n 0 i (omega (arith, h.1)) (λ k l. ap (λ (j : ℕ). test (f j)) (omega arith) ∙ h.3 k (omega arith) l)
+      (ap (λ (j : ℕ). test (f j)) (omega arith) ∙ h.2))

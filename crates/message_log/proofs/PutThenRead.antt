@@ -1,14 +1,15 @@
 -- What is put into bytes, read again: the new bytes at their place, and the others as they were.
-use Rattle.std.proofs.Common.{◌≡◌, ℕ, ◌+◌, ◌-◌, ◌<◌, ◌≤◌, min, ◌⊎◌, List, ◌++◌, length, get_or, take, drop, sym, refl, ap, ◌∙◌, ⊎_elim, arith}
+use Rattle.std.proofs.Common.{◌≡◌, ℕ, ◌+◌, ◌*◌, ap₂, ◌-◌, ◌<◌, ◌≤◌, min, ◌⊎◌, List, ◌++◌, length, get_or, take, drop, sym, refl, ap, ◌∙◌, ⊎_elim, arith}
 use Rattle.std.proofs.lemmas.List.{get_or_append_left, get_or-append_right, get_or-take, get_or-drop, length-take, length-drop, length-take-le, drop-drop, ext_get_or}
-use Rattle.message_log.specs.Layout.{put}
+use Rattle.std.specs.Int.{from_be_bytes, w16, w32}
+use Rattle.message_log.specs.Layout.{put, two, four}
 use Rattle.message_log.proofs.Puts.{length-put}
 
 -- a part of a list, place by place
 part_length : (xs : List ℕ) (n j : ℕ) → length (take n (drop j xs)) ≡ min n (length xs - j)
 part_length xs n j = length-take n (drop j xs) ∙ ap (min n) (length-drop j xs)
 
-part_at : (xs : List ℕ) (n j k : ℕ) → k < n → get_or (take n (drop j xs)) k 0 ≡ get_or xs (j + k) 0
+pub part_at : (xs : List ℕ) (n j k : ℕ) → k < n → get_or (take n (drop j xs)) k 0 ≡ get_or xs (j + k) 0
 part_at xs n j k l = get_or-take n (drop j xs) k 0 l ∙ get_or-drop j xs k 0
 
 same_parts : (xs ys : List ℕ) (n j : ℕ) → length xs ≡ length ys
@@ -62,3 +63,22 @@ module _ (i : ℕ) (new bytes : List ℕ) (fits : i + length new ≤ length byte
       (λ k l.
       let b : k < length new = omega arith in
       part_at (put i new bytes) (length new) i k b ∙ inside k b)
+
+-- a number of two or four bytes, read as a part
+pub two_read : (bytes part : List ℕ) (at n : ℕ) → n ≡ from_be_bytes w16 part → part ≡ take 2 (drop at bytes) → n ≡ two bytes at
+two_read bytes part at n h p =
+    h ∙ ap (from_be_bytes w16) p
+    ∙ ap₂ (λ (a b : ℕ). a * 256 + b)
+    (part_at bytes 2 at 0 (omega arith) ∙ ap (λ (k : ℕ). get_or bytes k 0) (omega arith))
+    (part_at bytes 2 at 1 (omega arith))
+
+pub four_read : (bytes part : List ℕ) (at n : ℕ) → n ≡ from_be_bytes w32 part → part ≡ take 4 (drop at bytes) → n ≡ four bytes at
+four_read bytes part at n h p =
+    h ∙ ap (from_be_bytes w32) p
+    ∙ ap₂ (λ (a b : ℕ). a + b)
+    (ap₂ (λ (a b : ℕ). a + b * 256)
+    (ap₂ (λ (a b : ℕ). a * 16777216 + b * 65536)
+    (part_at bytes 4 at 0 (omega arith) ∙ ap (λ (k : ℕ). get_or bytes k 0) (omega arith))
+    (part_at bytes 4 at 1 (omega arith)))
+    (part_at bytes 4 at 2 (omega arith)))
+    (part_at bytes 4 at 3 (omega arith))

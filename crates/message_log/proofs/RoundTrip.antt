@@ -1,64 +1,29 @@
 -- Reading what was written, and writing what was read.
-use Rattle.std.proofs.Common.{◌≡◌, ℕ, ◌+◌, ◌*◌, ◌/◌, ◌%◌, ◌^◌, ◌<◌, ◌≤◌, Bool, true, false, ◌&&◌, eqb, ltb, List, [], ◌∷◌, ◌++◌, length, get_or, drop, Some, Ok, Err, sym, refl, ap, ◌∙◌, mod-eq_of_lt, arith}
-use Rattle.std.proofs.lemmas.Bool.{cond-true, cond-false, and_from, eq-eqb, ne_eqb, and_left, and_right, and_parts, eqb-true}
-use Rattle.std.proofs.lemmas.List.{append-nil, drop_more, drop_all}
+use Rattle.std.proofs.Common.{◌≡◌, ℕ, ◌+◌, ◌<◌, ◌≤◌, Bool, true, false, ◌&&◌, ◌==◌, nat_lt, List, ◌∷◌, ◌++◌, length, get_or, take, drop, ⊎_elim, Some, Ok, Err, sym, refl, ap, ◌∙◌, arith}
+use Rattle.std.proofs.lemmas.Bool.{cond-true, cond-false, and_from, eq-eqb, and_parts, eqb-true, cases_lt}
+use Rattle.std.proofs.lemmas.List.{append-nil, drop_more, drop_all, drop-drop, length-drop, length-take, length-take-le, take-append-drop, get_or_past}
 use Rattle.std.proofs.lemmas.Bool.Decides.{nat_tests}
-use Rattle.std.proofs.lemmas.Nat.{shr-shr, div-add-mod'}
+use Rattle.std.proofs.lemmas.Nat.{be_bytes_2, be_bytes_4}
 use Rattle.protocol.specs.declared.kind.Kind.{Kind}
 use Rattle.protocol.specs.declared.kind.Kind.TheVariants as kind
 use Rattle.protocol.specs.declared.message.Message.{Message}
 use Rattle.protocol.specs.declared.message.Message.TheVariants.{Join, Publication, Response, Commit}
 use Rattle.protocol.specs.Kinds.{kind_number, kind_of_number}
 use Rattle.protocol.specs.Messages.{everyone, kind_of, legal_message}
+use Rattle.message_log.proofs.PutThenRead.{part_at, two_read, four_read}
 use Rattle.message_log.specs.declared.fault.Fault.TheVariants.{InvalidBody}
 use Rattle.message_log.specs.declared.fields.Fields.{Fields}
 use Rattle.message_log.specs.Layout.{two, four, in_two, in_four}
 use Rattle.message_log.specs.Body.{fields_in, body_with}
 use Rattle.message_log.specs.Rules.{valid, read_body, read_message, message_with, fields_of, body_of, no_base, no_content, ReadsBack, WritesBack}
 
-pub read_valid : (n : ℕ) (k : Kind) (body : List ℕ) → length body ≡ 26 → valid n k (fields_in body) ≡ true
+read_valid : (n : ℕ) (k : Kind) (body : List ℕ) → length body ≡ 26 → valid n k (fields_in body) ≡ true
     → read_body n k body ≡ Ok (message_with k (fields_in body))
 unfolding read_body
 read_valid n k body l v = cond-true _ _ _ (and_from _ _ (eq-eqb _ _ l) v)
 
-pub read_invalid : (n : ℕ) (k : Kind) (body : List ℕ) → valid n k (fields_in body) ≡ false
-    → read_body n k body ≡ Err InvalidBody
-unfolding read_body
-read_invalid n k body v = cond-false _ _ _ (and_right _ _ v)
-
-pub read_other_length : (n : ℕ) (k : Kind) (body : List ℕ) → (length body ≡ 26 → ⊥)
-    → read_body n k body ≡ Err InvalidBody
-unfolding read_body
-read_other_length n k body l = cond-false _ _ _ (and_left _ _ (ne_eqb _ _ l))
-
--- a number comes back from its bytes
-pub two_back : (n : ℕ) → n < 2 ^ 16 → n / 256 % 256 * 256 + n % 256 ≡ n
-two_back n h = omega (arith, div-add-mod' n 256)
-
-four_back : (n : ℕ) → n < 2 ^ 32
-    → n / 16777216 % 256 * 16777216 + n / 65536 % 256 * 65536 + n / 256 % 256 * 256 + n % 256 ≡ n
-four_back n h =
-    let a : n / 256 / 256 ≡ n / 65536 = shr-shr n 8 8 in
-    let b : n / 65536 / 256 ≡ n / 16777216 = shr-shr n 16 8 in
-    let top : n / 16777216 < 256 = omega arith in
-    let c : n / 16777216 % 256 ≡ n / 16777216 = mod-eq_of_lt top in
-    let d : n / 65536 ≡ n / 16777216 * 256 + n / 65536 % 256 = omega (arith, div-add-mod' (n / 65536) 256) in
-    let e : n / 256 ≡ n / 65536 * 256 + n / 256 % 256 = omega (arith, div-add-mod' (n / 256) 256) in
-    let f : n ≡ n / 256 * 256 + n % 256 = omega (arith, div-add-mod' n 256) in
-    omega arith
-
--- each number of a body fits its place
-pub record Fitting (f : Fields) : Type 0 where
-  pub term : f.term < 2 ^ 32
-  pub version : f.version < 2 ^ 32
-  pub base_term : f.base_term < 2 ^ 32
-  pub base_version : f.base_version < 2 ^ 32
-  pub value : f.value < 2 ^ 32
-  pub configuration : f.configuration.bits < 2 ^ 16
-  pub committed : f.committed_configuration.bits < 2 ^ 16
-
 -- fields that differ in how their numbers are written only
-same_fields : (f : Fields) (d t v bt bv x c k : ℕ) → d ≡ f.destination → t ≡ f.term → v ≡ f.version → bt ≡ f.base_term
+pub same_fields : (f : Fields) (d t v bt bv x c k : ℕ) → d ≡ f.destination → t ≡ f.term → v ≡ f.version → bt ≡ f.base_term
     → bv ≡ f.base_version → x ≡ f.value → c ≡ f.configuration.bits → k ≡ f.committed_configuration.bits
     → ◌≡◌ {A = Fields} (record {
       source = f.source;
@@ -73,55 +38,35 @@ same_fields : (f : Fields) (d t v bt bv x c k : ℕ) → d ≡ f.destination →
     }) f
 same_fields f d t v bt bv x c k ed et ev ebt ebv ex ec ek = rw (ed, et, ev, ebt, ebv, ex, ec, ek) refl
 
--- the numbers come back from the body that holds them
-pub numbers_back : (f : Fields) → Fitting f → fields_in (body_with f) ≡ f
-numbers_back f h =
-    same_fields f _ _ _ _ _ _ _ _
-    refl
-    (four_back f.term h.term)
-    (four_back f.version h.version)
-    (four_back f.base_term h.base_term)
-    (four_back f.base_version h.base_version)
-    (four_back f.value h.value)
-    (two_back f.configuration.bits h.configuration)
-    (two_back f.committed_configuration.bits h.committed)
-
--- bytes come back from the number that they are
-two_digits : (x y : ℕ) → x < 256 → y < 256 → in_two (x * 256 + y) ≡ x ∷ y ∷ []
-two_digits x y hx hy =
-    let a : (x * 256 + y) / 256 % 256 ≡ x = omega arith in
-    let b : (x * 256 + y) % 256 ≡ y = omega arith in
-    rw (a, b) refl
-
-four_digits : (x y z w : ℕ) → x < 256 → y < 256 → z < 256 → w < 256
-    → in_four (x * 16777216 + y * 65536 + z * 256 + w) ≡ x ∷ y ∷ z ∷ w ∷ []
-four_digits x y z w hx hy hz hw =
-    let a : (x * 16777216 + y * 65536 + z * 256 + w) / 16777216 % 256 ≡ x = omega arith in
-    let b : (x * 16777216 + y * 65536 + z * 256 + w) / 65536 % 256 ≡ y = omega arith in
-    let c : (x * 16777216 + y * 65536 + z * 256 + w) / 256 % 256 ≡ z = omega arith in
-    let d : (x * 16777216 + y * 65536 + z * 256 + w) % 256 ≡ w = omega arith in
-    rw (a, b, c, d) refl
-
+-- bytes come back from the numbers that they are
 module _ (body : List ℕ) (long : length body ≡ 26) (bytes : (i : ℕ) → get_or body i 0 < 256) where
+  part_byte : (n i k : ℕ) → get_or (take n (drop i body)) k 0 < 256
+  part_byte n i k = ⊎_elim inside outside (cases_lt k n)
+    where
+      inside : k < n → get_or (take n (drop i body)) k 0 < 256
+      inside l = rw (part_at body n i k l) (bytes (i + k))
+
+      outside : n ≤ k → get_or (take n (drop i body)) k 0 < 256
+      outside l = rw (get_or_past (take n (drop i body)) k 0 (omega (arith, length-take n (drop i body)))) (omega arith)
+
+  part_length : (n i : ℕ) → i + n ≤ 26 → length (take n (drop i body)) ≡ n
+  part_length n i h = length-take-le n (drop i body) (omega (arith, length-drop i body))
+
+  part_and_rest : (n i : ℕ) → take n (drop i body) ++ drop (i + n) body ≡ drop i body
+  part_and_rest n i =
+      ap (λ (d : List ℕ). take n (drop i body) ++ d) (sym (drop-drop n i body)) ∙ take-append-drop n (drop i body)
+
   two-part : (i : ℕ) → i + 2 ≤ 26 → in_two (two body i) ++ drop (i + 2) body ≡ drop i body
   two-part i h =
-      ap (λ (d : List ℕ). d ++ drop (i + 2) body) (two_digits _ _ (bytes i) (bytes (i + 1)))
-      ∙ ap (λ (n : ℕ). get_or body i 0 ∷ get_or body (i + 1) 0 ∷ drop n body) (omega arith)
-      ∙ sym (ap (λ (d : List ℕ). get_or body i 0 ∷ d) (drop_more body (i + 1) 0 (omega arith)))
-      ∙ sym (drop_more body i 0 (omega arith))
+      ap (λ (d : List ℕ). d ++ drop (i + 2) body)
+      (be_bytes_2 (take 2 (drop i body)) (two body i) (part_length 2 i h) (part_byte 2 i) (sym (two_read body _ i _ refl refl)))
+      ∙ part_and_rest 2 i
 
   four-part : (i : ℕ) → i + 4 ≤ 26 → in_four (four body i) ++ drop (i + 4) body ≡ drop i body
   four-part i h =
       ap (λ (d : List ℕ). d ++ drop (i + 4) body)
-      (four_digits _ _ _ _ (bytes i) (bytes (i + 1)) (bytes (i + 2)) (bytes (i + 3)))
-      ∙ ap (λ (n : ℕ). get_or body i 0 ∷ get_or body (i + 1) 0 ∷ get_or body (i + 2) 0 ∷ get_or body (i + 3) 0 ∷ drop n body)
-      (omega arith)
-      ∙ sym (ap (λ (d : List ℕ). get_or body i 0 ∷ get_or body (i + 1) 0 ∷ get_or body (i + 2) 0 ∷ d) (drop_more body (i + 3) 0 (omega arith)))
-      ∙ ap (λ (n : ℕ). get_or body i 0 ∷ get_or body (i + 1) 0 ∷ get_or body (i + 2) 0 ∷ drop n body) (omega arith)
-      ∙ sym (ap (λ (d : List ℕ). get_or body i 0 ∷ get_or body (i + 1) 0 ∷ d) (drop_more body (i + 2) 0 (omega arith)))
-      ∙ ap (λ (n : ℕ). get_or body i 0 ∷ get_or body (i + 1) 0 ∷ drop n body) (omega arith)
-      ∙ sym (ap (λ (d : List ℕ). get_or body i 0 ∷ d) (drop_more body (i + 1) 0 (omega arith)))
-      ∙ sym (drop_more body i 0 (omega arith))
+      (be_bytes_4 (take 4 (drop i body)) (four body i) (part_length 4 i h) (part_byte 4 i) (sym (four_read body _ i _ refl refl)))
+      ∙ part_and_rest 4 i
 
   -- a body comes back from the numbers that it holds
   pub body_back : body_with (fields_in body) ≡ body
@@ -143,11 +88,11 @@ module _ (body : List ℕ) (long : length body ≡ 26) (bytes : (i : ℕ) → ge
 -- The fields of a legal message keep the rules of its kind, and say that message again.
 legal_valid : (n : ℕ) (m : Message ℕ) → legal_message n m ≡ true → valid n (kind_of m) (fields_of m) ≡ true
 legal_valid n (Join m) h =
-    let p = and_parts (ltb m.source n) (ltb m.destination n) h in
+    let p = and_parts (nat_lt m.source n) (nat_lt m.destination n) h in
     and_from _ _ p.0 (and_from _ _ p.1 refl)
 legal_valid n (Publication m) h = h
 legal_valid n (Response m) h =
-    let p = and_parts (ltb m.source n) (ltb m.destination n) h in
+    let p = and_parts (nat_lt m.source n) (nat_lt m.destination n) h in
     and_from _ _ p.0 (and_from _ _ p.1 refl)
 legal_valid n (Commit m) h = and_from _ _ h refl
 
@@ -177,8 +122,8 @@ record NoContent (f : Fields) : Type 0 where
 
 no_content_parts : (f : Fields) → no_content f ≡ true → NoContent f
 no_content_parts f h =
-    let p = and_parts (eqb f.value 0) _ h in
-    let q = and_parts (eqb f.configuration.bits 0) _ p.1 in
+    let p = and_parts (f.value == 0) _ h in
+    let q = and_parts (f.configuration.bits == 0) _ p.1 in
     record {
       value = sym (eqb-true _ _ p.0);
       configuration = sym (eqb-true _ _ q.0);
@@ -187,43 +132,43 @@ no_content_parts f h =
 
 fields_again : (n : ℕ) (k : Kind) (f : Fields) → valid n k f ≡ true → fields_of (message_with k f) ≡ f
 fields_again n kind.Join f h =
-    let a = and_parts (ltb f.source n) _ h in
-    let b = and_parts (ltb f.destination n) _ a.1 in
-    let c = and_parts (eqb f.version 0) (no_content f) b.1 in
+    let a = and_parts (nat_lt f.source n) _ h in
+    let b = and_parts (nat_lt f.destination n) _ a.1 in
+    let c = and_parts (f.version == 0) (no_content f) b.1 in
     let d = no_content_parts f c.1 in
     same_fields f _ _ _ _ _ _ _ _ refl refl (sym (eqb-true _ _ c.0)) refl refl d.value d.configuration d.committed
 fields_again n kind.Publication f h =
-    let a = and_parts (ltb f.source n) _ h in
-    let b = and_parts (eqb f.destination everyone) _ a.1 in
+    let a = and_parts (nat_lt f.source n) _ h in
+    let b = and_parts (f.destination == everyone) _ a.1 in
     same_fields f _ _ _ _ _ _ _ _ (sym (eqb-true _ _ b.0)) refl refl refl refl refl refl refl
 fields_again n kind.Response f h =
-    let a = and_parts (ltb f.source n) _ h in
-    let b = and_parts (ltb f.destination n) _ a.1 in
+    let a = and_parts (nat_lt f.source n) _ h in
+    let b = and_parts (nat_lt f.destination n) _ a.1 in
     let c = and_parts (no_base f) (no_content f) b.1 in
     let d = no_content_parts f c.1 in
-    let e = and_parts (eqb f.base_term 0) _ c.0 in
+    let e = and_parts (f.base_term == 0) _ c.0 in
     same_fields f _ _ _ _ _ _ _ _ refl refl refl (sym (eqb-true _ _ e.0)) (sym (eqb-true _ _ e.1))
     d.value d.configuration d.committed
 fields_again n kind.Commit f h =
-    let a = and_parts (ltb f.source n) _ h in
-    let b = and_parts (eqb f.destination everyone) _ a.1 in
+    let a = and_parts (nat_lt f.source n) _ h in
+    let b = and_parts (f.destination == everyone) _ a.1 in
     let c = and_parts (no_base f) (no_content f) b.1 in
     let d = no_content_parts f c.1 in
-    let e = and_parts (eqb f.base_term 0) _ c.0 in
+    let e = and_parts (f.base_term == 0) _ c.0 in
     same_fields f _ _ _ _ _ _ _ _ (sym (eqb-true _ _ b.0)) refl refl (sym (eqb-true _ _ e.0))
     (sym (eqb-true _ _ e.1)) d.value d.configuration d.committed
 
 legal_again : (n : ℕ) (k : Kind) (f : Fields) → valid n k f ≡ true → legal_message n (message_with k f) ≡ true
 legal_again n kind.Join f h =
-    let a = and_parts (ltb f.source n) _ h in
-    and_from _ _ a.0 (and_parts (ltb f.destination n) _ a.1).0
+    let a = and_parts (nat_lt f.source n) _ h in
+    and_from _ _ a.0 (and_parts (nat_lt f.destination n) _ a.1).0
 legal_again n kind.Publication f h =
-    let a = and_parts (ltb f.source n) _ h in
-    and_from _ _ a.0 (and_parts (eqb f.destination everyone) _ a.1).1
+    let a = and_parts (nat_lt f.source n) _ h in
+    and_from _ _ a.0 (and_parts (f.destination == everyone) _ a.1).1
 legal_again n kind.Response f h =
-    let a = and_parts (ltb f.source n) _ h in
-    and_from _ _ a.0 (and_parts (ltb f.destination n) _ a.1).0
-legal_again n kind.Commit f h = (and_parts (ltb f.source n) _ h).0
+    let a = and_parts (nat_lt f.source n) _ h in
+    and_from _ _ a.0 (and_parts (nat_lt f.destination n) _ a.1).0
+legal_again n kind.Commit f h = (and_parts (nat_lt f.source n) _ h).0
 
 kind_again : (k : Kind) (f : Fields) → kind_of (message_with k f) ≡ k
 kind_again kind.Join f = refl
@@ -239,11 +184,11 @@ record Accepted (n : ℕ) (k : Kind) (body : List ℕ) (m : Message ℕ) : Type 
 
 accepted : (n : ℕ) (k : Kind) (body : List ℕ) (m : Message ℕ) → read_body n k body ≡ Ok m → Accepted n k body m
 unfolding read_body
-accepted n k body m h = go (eqb (length body) 26 && valid n k (fields_in body)) refl
+accepted n k body m h = go (length body == 26 && valid n k (fields_in body)) refl
   where
-    go : (b : Bool) → (eqb (length body) 26 && valid n k (fields_in body)) ≡ b → Accepted n k body m
+    go : (b : Bool) → (length body == 26 && valid n k (fields_in body)) ≡ b → Accepted n k body m
     go true e =
-        let p = and_parts (eqb (length body) 26) (valid n k (fields_in body)) e in
+        let p = and_parts (length body == 26) (valid n k (fields_in body)) e in
         let q : Ok m ≡ Ok (message_with k (fields_in body)) = sym h ∙ cond-true _ _ _ e in
         record { long = eqb-true _ _ p.0; rules = p.1; says = cc }
     go false e =

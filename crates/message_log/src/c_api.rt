@@ -8,7 +8,7 @@ use crate::fault::Fault;
 use crate::header::count;
 use protocol::Refusal;
 
-/// What counting answers where there is no log.
+/// What counting answers where there is no log: C has no `Result`.
 const NO_LOG: u16 = 65535;
 
 /// Clears a log: 0, or the number of the refusal, with nothing touched.
@@ -16,9 +16,10 @@ pub fn kilqaros_log_clear(bytes: &mut [u8], capacity: u16) -> u8
     ensures answer { result ≡ clear_code (clear_to bytes.old capacity).answer }
     ensures bytes { bytes.new ≡ (clear_to bytes.old capacity).bytes }
 {
+    // Numbers for the answers, since the caller is in C.
     match clear(bytes, capacity) {
         Ok(()) => 0,
-        Err(fault) => Refusal::from(fault).number(),
+        Err(fault) => Refusal::from(fault).into(),
     }
 }
 
@@ -26,8 +27,5 @@ pub fn kilqaros_log_clear(bytes: &mut [u8], capacity: u16) -> u8
 pub fn kilqaros_log_count(bytes: &[u8]) -> u16
     ensures { result ≡ count_code (count_in bytes.now) }
 {
-    match count(bytes) {
-        Ok(count) => count,
-        Err(_) => NO_LOG,
-    }
+    count(bytes).unwrap_or(NO_LOG)
 }

@@ -6,10 +6,12 @@ ghost use Rattle.message_log.specs.Log.{clear_to, cleared};
 
 use crate::fault::Fault;
 use crate::header::{is_legal, rest_length};
-use crate::layout::SIZES_LENGTH;
+use crate::layout::{CAPACITY, SIZES_LENGTH};
+use crate::places::put;
 
 /// Makes the bytes a log with this capacity and no entry. Where they have not the length of one,
 /// or the capacity is not a legal one, nothing is touched.
+#[tactic(auto, using(crate::proofs::Adding::empty_log))]
 pub fn clear(bytes: &mut [u8], capacity: u16) -> Result<(), Fault>
     ensures answer { result ≡ (clear_to bytes.old capacity).answer }
     ensures bytes { bytes.new ≡ (clear_to bytes.old capacity).bytes }
@@ -35,5 +37,5 @@ fn write_empty(bytes: &mut [u8], capacity: u16)
     ensures { bytes.new ≡ cleared capacity }
 {
     bytes.fill(0);
-    bytes[0..2].copy_from_slice(&capacity.to_be_bytes());
+    put(bytes, CAPACITY, &capacity.to_be_bytes());
 }

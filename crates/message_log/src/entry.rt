@@ -20,24 +20,25 @@ pub enum Entry<'a> {
 impl<'a> Entry<'a> {
     /// The entry with this kind and this body, in a cluster of `nodes` nodes; or what is wrong
     /// with it.
+    // The kind is a byte as it lies in a log: to read it is what this is for.
+    #[tactic(auto, using(crate::proofs::RoundTrip::writes_back))]
     pub fn read(kind: u8, body: &'a [u8], nodes: u8) -> Result<Entry<'a>, Fault>
         ensures answer { Answered (read_message nodes kind body.now) body.now result }
         ensures one_to_one { IfOk result (λ entry. WritesBack nodes kind body.now (entry_message entry)) }
     {
-        match Kind::from_number(kind) {
-            Some(kind) => Entry::of_kind(kind, body, nodes),
-            None => Err(Fault::UnknownKind),
-        }
+        let kind = Kind::try_from(kind)?;
+        Entry::of_kind(kind, body, nodes)
     }
 
     // The entry with this kind and body, if the body keeps the rules.
+    #[tactic(auto, unfolding(crate::specs::Rules::read_body))]
     fn of_kind(kind: Kind, body: &'a [u8], nodes: u8) -> Result<Entry<'a>, Fault>
         ensures { Answered (read_body nodes kind body.now) body.now result }
     {
         let Ok(body) = <&[u8; 26]>::try_from(body) else {
             return Err(Fault::InvalidBody);
         };
-        if Fields::from_body(body).are_valid(kind, nodes) {
+        if Fields::from(body).are_valid(kind, nodes) {
             Ok(Entry::new(kind, body))
         } else {
             Err(Fault::InvalidBody)
@@ -58,6 +59,8 @@ impl<'a> Entry<'a> {
     }
 
     /// The entry's kind.
+    // The cases are public, for callers to match on; so this is a match of its own beside that of
+    // `Message::kind`.
     pub fn kind(&self) -> Kind
         ensures { result ≡ entry_kind self.now }
     {
@@ -85,10 +88,11 @@ impl<'a> Entry<'a> {
     pub fn fields(&self) -> Fields
         ensures { result ≡ fields_in (entry_body self.now) }
     {
-        Fields::from_body(self.body())
+        Fields::from(self.body())
     }
 
     /// The message that the entry is.
+    // No `From`: an entry is asked for its kind, its fields and its message alike.
     pub fn message(&self) -> Message
         ensures { result ≡ entry_message self.now }
     {

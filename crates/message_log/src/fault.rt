@@ -1,8 +1,11 @@
 //! What can be wrong with a log, or with an entry of it.
-ghost use Rattle.std.specs.Prelude.{◌≡◌};
+ghost use Rattle.std.specs.Prelude.{◌≡◌, Some, decimal};
+ghost use Rattle.protocol.specs.Refusals.{refusal_number};
 ghost use Rattle.message_log.specs.Faults.{refusal_of};
 
-use protocol::Refusal;
+use protocol::{Refusal, UnknownKind};
+use std::error::Error;
+use std::fmt;
 
 #[derive(Clone, Copy, PartialEq, Eq, Debug)]
 pub enum Fault {
@@ -29,3 +32,26 @@ impl From<Fault> for Refusal {
         }
     }
 }
+
+/// A number that stands for no kind is a fault of the entry that has it.
+impl From<UnknownKind> for Fault {
+    ghost use Rattle.message_log.specs.declared.fault.Fault.TheVariants.{UnknownKind};
+
+    ghost from_gives = { λ _ fault. fault ≡ UnknownKind };
+
+    fn from(_: UnknownKind) -> Self {
+        Self::UnknownKind
+    }
+}
+
+/// A fault is shown as the refusal that it is, by its number.
+impl fmt::Display for Fault {
+    ghost output = { λ fault. Some (decimal (refusal_number (refusal_of fault))) };
+
+    fn fmt<W: fmt::Write>(&self, f: &mut fmt::Formatter<W>) -> fmt::Result {
+        let refusal = Refusal::from(*self);
+        write!(f, "{refusal}")
+    }
+}
+
+impl Error for Fault {}

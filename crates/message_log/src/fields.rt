@@ -1,6 +1,5 @@
 //! The nine numbers of a body.
-ghost use Rattle.std.specs.Prelude.{◌≡◌, ◌+◌, ◌≤◌};
-ghost use Rattle.message_log.specs.Layout.{two, four, in_two, in_four, put};
+ghost use Rattle.std.specs.Prelude.{◌≡◌};
 ghost use Rattle.message_log.specs.Body.{fields_in, body_with};
 ghost use Rattle.message_log.specs.Rules.{valid, no_base, no_content};
 
@@ -8,11 +7,12 @@ use crate::layout::{
     BASE_TERM, BASE_VERSION, BODY_LENGTH, COMMITTED_CONFIGURATION, CONFIGURATION, DESTINATION,
     SOURCE, TERM, VALUE, VERSION,
 };
+use crate::places::{bytes_at, put};
 use protocol::{EVERYONE, Kind, Term, Value, Version};
 use quorum::NodeSet;
 
 /// What a body says, whatever its kind. A kind leaves the fields that it does not use at zero.
-#[derive(Clone, Copy, PartialEq, Eq, Debug)]
+#[derive(Clone, Copy, PartialEq, Eq, Default, Debug)]
 pub struct Fields {
     pub source: u8,
     pub destination: u8,
@@ -25,46 +25,56 @@ pub struct Fields {
     pub committed_configuration: NodeSet,
 }
 
-impl Fields {
-    /// The numbers in a body.
-    pub(crate) fn from_body(body: &[u8; 26]) -> Fields
-        ensures { result ≡ fields_in body.now }
-    {
+/// The numbers in a body.
+impl From<&[u8; 26]> for Fields {
+    ghost from_gives = { λ body fields. fields ≡ fields_in body.now };
+
+    fn from(body: &[u8; 26]) -> Fields {
         Fields {
             source: body[SOURCE],
             destination: body[DESTINATION],
-            term: u32_at(body, TERM),
-            version: u32_at(body, VERSION),
-            base_term: u32_at(body, BASE_TERM),
-            base_version: u32_at(body, BASE_VERSION),
-            value: u32_at(body, VALUE),
-            configuration: NodeSet::from_bits(u16_at(body, CONFIGURATION)),
-            committed_configuration: NodeSet::from_bits(u16_at(body, COMMITTED_CONFIGURATION)),
+            term: u32::from_be_bytes(bytes_at(body, TERM)),
+            version: u32::from_be_bytes(bytes_at(body, VERSION)),
+            base_term: u32::from_be_bytes(bytes_at(body, BASE_TERM)),
+            base_version: u32::from_be_bytes(bytes_at(body, BASE_VERSION)),
+            value: u32::from_be_bytes(bytes_at(body, VALUE)),
+            configuration: NodeSet::from_bits(u16::from_be_bytes(bytes_at(body, CONFIGURATION))),
+            committed_configuration: NodeSet::from_bits(u16::from_be_bytes(bytes_at(
+                body,
+                COMMITTED_CONFIGURATION,
+            ))),
         }
     }
+}
 
-    /// The body with these numbers.
-    pub(crate) fn to_body(&self) -> [u8; 26]
-        ensures bytes { result ≡ body_with self.now }
-        ensures one_to_one { fields_in result ≡ self.now }
-    {
+/// The body with these numbers.
+impl From<Fields> for [u8; 26] {
+    ghost from_gives = { λ fields body. (body ≡ body_with fields) × (fields_in body ≡ fields) };
+
+    fn from(fields: Fields) -> [u8; 26] {
         let mut body = [0; BODY_LENGTH];
-        body[SOURCE] = self.source;
-        body[DESTINATION] = self.destination;
-        put_u32(&mut body, TERM, self.term);
-        put_u32(&mut body, VERSION, self.version);
-        put_u32(&mut body, BASE_TERM, self.base_term);
-        put_u32(&mut body, BASE_VERSION, self.base_version);
-        put_u32(&mut body, VALUE, self.value);
-        put_u16(&mut body, CONFIGURATION, self.configuration.bits());
-        put_u16(
+        body[SOURCE] = fields.source;
+        body[DESTINATION] = fields.destination;
+        put(&mut body, TERM, &fields.term.to_be_bytes());
+        put(&mut body, VERSION, &fields.version.to_be_bytes());
+        put(&mut body, BASE_TERM, &fields.base_term.to_be_bytes());
+        put(&mut body, BASE_VERSION, &fields.base_version.to_be_bytes());
+        put(&mut body, VALUE, &fields.value.to_be_bytes());
+        put(
+            &mut body,
+            CONFIGURATION,
+            &fields.configuration.bits().to_be_bytes(),
+        );
+        put(
             &mut body,
             COMMITTED_CONFIGURATION,
-            self.committed_configuration.bits(),
+            &fields.committed_configuration.bits().to_be_bytes(),
         );
         body
     }
+}
 
+impl Fields {
     /// Whether each field keeps the rule that a body of this kind has for it, in a cluster of
     /// `nodes` nodes.
     pub(crate) fn are_valid(&self, kind: Kind, nodes: u8) -> bool
@@ -104,32 +114,4 @@ impl Fields {
             && self.configuration.bits() == 0
             && self.committed_configuration.bits() == 0
     }
-}
-
-fn u32_at(body: &[u8; 26], at: usize) -> u32
-    requires { at + 4 ≤ 26 }
-    ensures { result ≡ four body.now at }
-{
-    u32::from_be_bytes([body[at], body[at + 1], body[at + 2], body[at + 3]])
-}
-
-fn u16_at(body: &[u8; 26], at: usize) -> u16
-    requires { at + 2 ≤ 26 }
-    ensures { result ≡ two body.now at }
-{
-    u16::from_be_bytes([body[at], body[at + 1]])
-}
-
-fn put_u32(body: &mut [u8; 26], at: usize, number: u32)
-    requires { at + 4 ≤ 26 }
-    ensures { body.new ≡ put at (in_four number) body.old }
-{
-    body[at..at + 4].copy_from_slice(&number.to_be_bytes());
-}
-
-fn put_u16(body: &mut [u8; 26], at: usize, number: u16)
-    requires { at + 2 ≤ 26 }
-    ensures { body.new ≡ put at (in_two number) body.old }
-{
-    body[at..at + 2].copy_from_slice(&number.to_be_bytes());
 }

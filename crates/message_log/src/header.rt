@@ -15,6 +15,7 @@ pub struct Sizes {
 
 impl Sizes {
     /// The sizes of a log, or the fault of bytes that are none.
+    // No `TryFrom`: bytes that are lent mutably would have to be written `&*bytes`.
     pub fn of(bytes: &[u8]) -> Result<Sizes, Fault>
         ensures { result ≡ sizes_of bytes.now }
     {

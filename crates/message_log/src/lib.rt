@@ -11,7 +11,9 @@ mod fault;
 mod fields;
 mod header;
 mod layout;
+mod log;
 mod lookup;
+mod places;
 
 pub use appending::{append, place};
 pub use c_api::{kilqaros_log_clear, kilqaros_log_count};

@@ -7,6 +7,9 @@ ghost use Rattle.std.specs.Prelude.{◌≡◌};
 ghost use Rattle.message_log.specs.Log.{clear_to, count_in};
 ghost use Rattle.message_log.specs.Firmware.{clear_code, count_code};
 
+// Numbers for the answers, and functions of these names beside those of `message_log`: the caller is
+// in C, and a crate is a library or a static library.
+
 /// Clears a log: 0, or the number of the refusal, with nothing touched.
 #[unsafe(no_mangle)]
 pub extern "C" fn kilqaros_log_clear(bytes: &mut [u8], capacity: u16) -> u8

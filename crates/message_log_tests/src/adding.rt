@@ -50,10 +50,7 @@ fn is(bytes: &[u8], entry: u16, message: &Message) -> bool {
     let Ok(Some(stored)) = look_up(bytes, entry) else {
         return false;
     };
-    match Entry::read(stored.kind, stored.body, 3) {
-        Ok(entry) => entry.message() == *message,
-        Err(_) => false,
-    }
+    Entry::read(stored.kind, stored.body, 3).is_ok_and(|entry| entry.message() == *message)
 }
 
 #[test]

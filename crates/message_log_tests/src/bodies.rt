@@ -3,10 +3,7 @@ use message_log::{Entry, Fault};
 
 // What is wrong with a body, if anything.
 fn fault(kind: u8, body: &[u8], nodes: u8) -> Option<Fault> {
-    match Entry::read(kind, body, nodes) {
-        Ok(_) => None,
-        Err(fault) => Some(fault),
-    }
+    Entry::read(kind, body, nodes).err()
 }
 
 #[test]
@@ -54,10 +51,8 @@ fn configurations_are_legal(rt: HostRuntime) {
     ] {
         let mut body = [0; 26];
         body[1] = 255;
-        body[22] = accepted[0];
-        body[23] = accepted[1];
-        body[24] = committed[0];
-        body[25] = committed[1];
+        body[22..24].copy_from_slice(&accepted);
+        body[24..26].copy_from_slice(&committed);
         assert_eq!(rt; fault(2, &body, nodes).is_none(), good);
     }
 }

@@ -5,13 +5,10 @@ use std::test::Fail;
 
 // `length` bytes that open with these sizes.
 fn log(heap: Global, length: usize, capacity: u16, count: u16) -> Result<Vec<u8>, AllocError> {
-    let mut bytes = Vec::new(heap);
     let [c1, c0] = capacity.to_be_bytes();
     let [m1, m0] = count.to_be_bytes();
-    let sizes = [c1, c0, m1, m0];
-    for place in 0..length {
-        bytes.push(sizes.get(place).copied().unwrap_or(0))?;
-    }
+    let mut bytes = [c1, c0, m1, m0].to_vec(heap)?;
+    bytes.resize(length, 0)?;
     Ok(bytes)
 }
 
@@ -36,16 +33,15 @@ fn sizes_decide_what_is_a_log(rt: HostRuntime) -> Result<(), Fail> {
         (55_327, 2049, 2049, false),
     ] {
         let bytes = log(rt.alloc(), length, capacity, entries)?;
-        let answer = count(bytes.as_slice());
         let expected = if good {
             Ok(entries)
         } else {
             Err(Fault::IllFormedLog)
         };
-        assert_eq!(rt; answer, expected);
-        let number = kilqaros_log_count(bytes.as_slice());
+        assert_eq!(rt; count(&bytes), expected);
+        let number = kilqaros_log_count(&bytes);
         assert_eq!(rt; number, if good { entries } else { 65_535 });
-        match look_up(bytes.as_slice(), entries) {
+        match look_up(&bytes, entries) {
             Ok(found) => assert!(rt; good && found.is_none()),
             Err(fault) => assert!(rt; !good && fault == Fault::IllFormedLog),
         }
@@ -67,16 +63,15 @@ fn clearing_fits_or_touches_nothing(rt: HostRuntime) -> Result<(), Fail> {
         (0, 1, false),
     ] {
         let mut bytes = vec![in rt.alloc(); 7u8; length]?;
-        let answer = clear(&mut bytes, capacity);
-        assert_eq!(rt; answer.is_ok(), good);
-        let [c1, c0] = capacity.to_be_bytes();
+        assert_eq!(rt; clear(&mut bytes, capacity).is_ok(), good);
+        let cleared = capacity.to_be_bytes();
         for (place, byte) in bytes.iter().enumerate() {
-            let cleared = match place {
-                0 => c1,
-                1 => c0,
-                _ => 0,
+            let expected = if good {
+                cleared.get(place).copied().unwrap_or(0)
+            } else {
+                7
             };
-            assert_eq!(rt; *byte, if good { cleared } else { 7 });
+            assert_eq!(rt; *byte, expected);
         }
         assert_eq!(rt;
             kilqaros_log_clear(&mut bytes, capacity),

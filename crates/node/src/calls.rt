@@ -1,24 +1,22 @@
 //! What a node decides when it is called upon: bootstrap, start join, publish.
 ghost use Rattle.std.specs.Prelude.{◌≡◌};
 ghost use Rattle.protocol.specs.Decisions.{decided, bootstrap_tests, bootstrap_effect, start_join_tests, start_join_effect, publish_tests, publish_effect};
-ghost use Rattle.protocol.specs.Meanings.{decision_meant, node_meant};
 ghost use Rattle.node.specs.Setups.{meant};
 
+use crate::member::Member;
 use crate::restart::restarted;
-use crate::setup::Setup;
 use protocol::{
-    Accepted, Change, Effect, Join, Message, NodeState, Publication, Refusal, Term, Value, Version,
-    Volatile,
+    Accepted, Change, Effect, Join, Message, Publication, Refusal, Term, Value, Version, Volatile,
 };
 use quorum::{NodeSet, VotingRule};
 
-impl<R: VotingRule> Setup<R> {
+impl<R: VotingRule> Member<'_, R> {
     /// The node accepts and commits the initial value and the initial configuration, once; its
     /// terms and its version stay.
-    pub fn bootstrap(&self, node: &NodeState) -> Result<Effect, Refusal>
-        ensures { decision_meant result ≡ decided (bootstrap_tests (meant R.quorum self.now) (node_meant node.now)) (bootstrap_effect (meant R.quorum self.now) (node_meant node.now)) }
+    pub fn bootstrap(&self) -> Result<Effect, Refusal>
+        ensures { result ≡ decided (bootstrap_tests (meant R.quorum self.now.setup.now) self.now.state.now) (bootstrap_effect (meant R.quorum self.now.setup.now) self.now.state.now) }
     {
-        let kept = &node.kept;
+        let kept = &self.state.kept;
         if kept.last_accepted_configuration != NodeSet::empty() {
             return Err(Refusal::AlreadyBootstrapped);
         }
@@ -26,27 +24,21 @@ impl<R: VotingRule> Setup<R> {
             change: Some(Change::Accept(Accepted {
                 term: kept.last_accepted_term,
                 version: kept.last_accepted_version,
-                value: self.initial_value,
-                configuration: self.initial_configuration,
-                committed_configuration: self.initial_configuration,
+                value: self.setup.initial_value,
+                configuration: self.setup.initial_configuration,
+                committed_configuration: self.setup.initial_configuration,
             })),
-            volatile: node.volatile,
+            volatile: self.state.volatile,
             message: None,
         })
     }
 
-    /// Node `number` moves to a higher term and votes for `leader` in it: it forgets what a
+    /// The node moves to a higher term and votes for `leader` in it: it forgets what a
     /// restart forgets, but has started a join.
-    pub fn start_join(
-        &self,
-        node: &NodeState,
-        number: u8,
-        leader: u8,
-        term: Term,
-    ) -> Result<Effect, Refusal>
-        ensures { decision_meant result ≡ decided (start_join_tests (meant R.quorum self.now) (node_meant node.now) term) (start_join_effect (meant R.quorum self.now) (node_meant node.now) number leader term) }
+    pub fn start_join(&self, leader: u8, term: Term) -> Result<Effect, Refusal>
+        ensures { result ≡ decided (start_join_tests (meant R.quorum self.now.setup.now) self.now.state.now term) (start_join_effect (meant R.quorum self.now.setup.now) self.now.state.now self.now.number leader term) }
     {
-        let kept = &node.kept;
+        let kept = &self.state.kept;
         if term <= kept.current_term {
             return Err(Refusal::TermNotHigher);
         }
@@ -57,7 +49,7 @@ impl<R: VotingRule> Setup<R> {
                 ..restarted(kept)
             },
             message: Some(Message::Join(Join {
-                source: number,
+                source: self.number,
                 destination: leader,
                 term,
                 base_term: kept.last_accepted_term,
@@ -66,23 +58,21 @@ impl<R: VotingRule> Setup<R> {
         })
     }
 
-    /// Node `number` proposes a value and a configuration: only the leader of `term`, one
+    /// The node proposes a value and a configuration: only the leader of `term`, one
     /// publication at a time, and with a higher version than the last. It changes the
     /// configuration only once the last change is committed, and only to one of which its join
     /// votes are a quorum.
     pub fn publish(
         &self,
-        node: &NodeState,
-        number: u8,
         term: Term,
         version: Version,
         value: Value,
         configuration: NodeSet,
     ) -> Result<Effect, Refusal>
-        ensures { decision_meant result ≡ decided (publish_tests (meant R.quorum self.now) (node_meant node.now) term version configuration) (publish_effect (meant R.quorum self.now) (node_meant node.now) number term version value configuration) }
+        ensures { result ≡ decided (publish_tests (meant R.quorum self.now.setup.now) self.now.state.now term version configuration) (publish_effect (meant R.quorum self.now.setup.now) self.now.state.now self.now.number term version value configuration) }
     {
-        let kept = &node.kept;
-        let volatile = &node.volatile;
+        let kept = &self.state.kept;
+        let volatile = &self.state.volatile;
         if !volatile.election_won {
             return Err(Refusal::ElectionNotWon);
         }
@@ -100,7 +90,11 @@ impl<R: VotingRule> Setup<R> {
         {
             return Err(Refusal::ReconfigurationUnderWay);
         }
-        if !self.rule.is_quorum(volatile.join_votes, configuration) {
+        if !self
+            .setup
+            .rule
+            .is_quorum(volatile.join_votes, configuration)
+        {
             return Err(Refusal::NoJoinQuorum);
         }
         Ok(Effect {
@@ -112,7 +106,7 @@ impl<R: VotingRule> Setup<R> {
                 ..*volatile
             },
             message: Some(Message::Publication(Publication {
-                source: number,
+                source: self.number,
                 term,
                 version,
                 base_term: kept.last_accepted_term,

@@ -5,10 +5,12 @@
 mod calls;
 mod delivery;
 mod entry;
+mod member;
 mod restart;
 mod setup;
 #[cfg(test)]
 mod tests;
 
+pub use member::Member;
 pub use restart::restarted;
 pub use setup::Setup;

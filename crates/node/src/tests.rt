@@ -26,12 +26,9 @@ fn candidate() -> NodeState {
             last_committed_configuration: NodeSet::from_bits(0x7),
         },
         volatile: Volatile {
-            join_votes: NodeSet::empty(),
             started_join: true,
-            election_won: false,
-            last_published_version: 0,
             last_published_configuration: NodeSet::from_bits(0x7),
-            publish_votes: NodeSet::empty(),
+            ..Volatile::default()
         },
     }
 }
@@ -73,7 +70,7 @@ fn two_of_three_elect(rt: HostRuntime) {
         join_votes: NodeSet::from_bits(0x1),
         ..node.volatile
     };
-    let counted = setup().deliver(&node, 0, &join(0, 0, 5));
+    let counted = setup().member(0, &node).deliver(&join(0, 0, 5));
     assert_eq!(rt;
         counted,
         Ok(Effect {
@@ -89,7 +86,7 @@ fn two_of_three_elect(rt: HostRuntime) {
         last_published_version: 5,
         ..once
     };
-    let won = setup().deliver(&node, 0, &join(1, 0, 4));
+    let won = setup().member(0, &node).deliver(&join(1, 0, 4));
     assert_eq!(rt;
         won,
         Ok(Effect {
@@ -104,16 +101,16 @@ fn two_of_three_elect(rt: HostRuntime) {
 fn joins_that_are_not_counted(rt: HostRuntime) {
     let mut node = candidate();
     assert_eq!(rt;
-        setup().deliver(&node, 0, &join(2, 0, 6)),
+        setup().member(0, &node).deliver(&join(2, 0, 6)),
         Err(Refusal::JoinerAhead)
     );
     assert_eq!(rt;
-        setup().deliver(&node, 0, &join(2, 1, 0)),
+        setup().member(0, &node).deliver(&join(2, 1, 0)),
         Err(Refusal::JoinerAhead)
     );
     node.volatile.started_join = false;
     assert_eq!(rt;
-        setup().deliver(&node, 0, &join(2, 0, 6)),
+        setup().member(0, &node).deliver(&join(2, 0, 6)),
         Err(Refusal::JoinNotStarted)
     );
 }
@@ -143,15 +140,15 @@ fn a_leader_reconfigures_one_change_at_a_time(rt: HostRuntime) {
         },
         message: Some(Message::Publication(published)),
     };
-    assert_eq!(rt; setup.publish(&node, 0, 1, 7, 119, two), Ok(effect));
+    assert_eq!(rt; setup.member(0, &node).publish(1, 7, 119, two), Ok(effect));
     let other = NodeSet::from_bits(0x4);
     assert_eq!(rt;
-        setup.publish(&node, 0, 1, 7, 119, other),
+        setup.member(0, &node).publish(1, 7, 119, other),
         Err(Refusal::NoJoinQuorum)
     );
     node.kept.last_committed_configuration = NodeSet::from_bits(0xf);
     assert_eq!(rt;
-        setup.publish(&node, 0, 1, 7, 119, other),
+        setup.member(0, &node).publish(1, 7, 119, other),
         Err(Refusal::ReconfigurationUnderWay)
     );
 }
@@ -185,9 +182,9 @@ fn a_publication_is_accepted_once(rt: HostRuntime) {
             version: 6,
         })),
     };
-    assert_eq!(rt; setup().deliver(&node, 2, &publication), Ok(effect));
+    assert_eq!(rt; setup().member(2, &node).deliver(&publication), Ok(effect));
     assert_eq!(rt;
-        setup().deliver(&leader(), 2, &publication),
+        setup().member(2, &leader()).deliver(&publication),
         Err(Refusal::AlreadyAccepted)
     );
 }
@@ -214,10 +211,10 @@ fn a_leader_commits_its_last_publication_only(rt: HostRuntime) {
         },
         message: Some(Message::Commit(commit)),
     };
-    assert_eq!(rt; setup().deliver(&node, 0, &response), Ok(decided));
+    assert_eq!(rt; setup().member(0, &node).deliver(&response), Ok(decided));
     node.volatile.last_published_version = 7;
     assert_eq!(rt;
-        setup().deliver(&node, 0, &Message::Commit(commit)),
+        setup().member(0, &node).deliver(&Message::Commit(commit)),
         Err(Refusal::NewerPublished)
     );
 }

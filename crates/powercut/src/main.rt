@@ -48,13 +48,15 @@ fn print_bytes(rt: &HostRuntime, bytes: &[u8; SIZE]) -> io::Result<()> {
 
 /// The record's six numbers in order, in hexadecimal.
 fn print_record(rt: &HostRuntime, record: Record) -> io::Result<()> {
-    let term = record.current_term;
-    let accepted_term = record.last_accepted_term;
-    let version = record.last_accepted_version;
-    let value = record.last_accepted_value;
-    let configuration = record.last_accepted_configuration.bits();
-    let committed = record.last_committed_configuration.bits();
-    print!(rt; "{term:x} {accepted_term:x} {version:x} {value:x} {configuration:x} {committed:x}")
+    print!(rt;
+        "{:x} {:x} {:x} {:x} {:x} {:x}",
+        record.current_term,
+        record.last_accepted_term,
+        record.last_accepted_version,
+        record.last_accepted_value,
+        record.last_accepted_configuration.bits(),
+        record.last_committed_configuration.bits()
+    )
 }
 
 /// Writes the second record to a copy of the ring, under this power.
@@ -66,8 +68,7 @@ fn cut(rt: &HostRuntime, mut bytes: [u8; SIZE], power: Power) -> io::Result<()> 
         "unfinished"
     };
     let record = ring.read();
-    let budget = power.budget;
-    let residue = power.residue;
+    let Power { budget, residue } = power;
     print!(rt; "{budget:2} {residue:02x} {answer:10} ")?;
     print_record(rt, record)?;
     print!(rt; " | ")?;

@@ -6,6 +6,7 @@ use Rattle.std.proofs.lemmas.Bool.{cond-true, cond-false, and_cases, or_parts, n
 use Rattle.quorum.specs.declared.node_set.NodeSet.{NodeSet}
 use Rattle.quorum.specs.Sets.{with_node, legal_configuration}
 use Rattle.quorum.specs.Laws.{Shared, Grows, Void}
+use Rattle.protocol.specs.Messages.{is_for}
 use Rattle.protocol.specs.declared.change.Change.{Change}
 use Rattle.protocol.specs.declared.message.Message.{Message}
 use Rattle.protocol.specs.declared.message.Message.TheVariants as message
@@ -19,7 +20,7 @@ use Rattle.protocol.specs.declared.refusal.Refusal.TheVariants.{UnknownNode, Ill
 use Rattle.protocol.specs.declared.volatile.Volatile.{Volatile}
 use Rattle.protocol.specs.Changes.{changed}
 use Rattle.protocol.specs.Decisions.{
-  Node,
+  NodeState,
   Setup,
   Effect,
   Test,
@@ -46,7 +47,7 @@ use Rattle.protocol.specs.Decisions.{
   restart_effect,
   deliver_decided,
 }
-use Rattle.protocol.specs.Calls.{Entry, entries_of, World, Fate, Call, bootstrap, start_join, publish, deliver, restart, fresh_node, addressed, decided_on, carried_out, if_known, on_node, nodes_count, node_called, decision, called}
+use Rattle.protocol.specs.Calls.{Entry, entries_of, World, Fate, Call, bootstrap, start_join, publish, deliver, restart, fresh_node, decided_on, carried_out, if_known, on_node, nodes_count, node_called, decision, called}
 use Rattle.protocol.proofs.Setting.{Setting}
 use Rattle.protocol.proofs.Log as messages
 use Rattle.protocol.proofs.Points.{Upto}
@@ -78,12 +79,12 @@ module _ {V : Type 0} (setup : Setup V) (values : (x y : V) → Decides (setup.s
   setting = record { quorum = setup.quorum; shared = shared; grows = grows; void = void; initial = setup.initial_configuration }
 
   -- the state of the protocol that a world is in, with this log
-  abbrev pub node_of : List (Node V) → ℕ → Node V
+  abbrev pub node_of : List (NodeState V) → ℕ → NodeState V
   node_of nodes k = get_or nodes k (fresh_node setup 0)
 
-  abbrev pub state_of : List (Node V) → List (Message V) → step.State V
+  abbrev pub state_of : List (NodeState V) → List (Message V) → step.State V
   state_of nodes log = record {
-    node = λ k. record { «record» = (node_of nodes k).kept; volatile = (node_of nodes k).volatile };
+    node = node_of nodes;
     log = log;
   }
 
@@ -106,11 +107,11 @@ module _ {V : Type 0} (setup : Setup V) (values : (x y : V) → Decides (setup.s
     }
 
     -- node n is another, and every other node is as it was
-    moves : (n : ℕ) → n < length world.nodes → (x : Node V) (log' : List (Message V))
+    moves : (n : ℕ) → n < length world.nodes → (x : NodeState V) (log' : List (Message V))
         → step.Moves (state_of world.nodes log) (state_of (set world.nodes n x) log') n x.kept x.volatile
     moves n known x log' = record {
-      now = ap (λ (y : Node V). record { «record» = y.kept; volatile = y.volatile }) (get_or-set_same world.nodes n x (fresh_node setup 0) known);
-      others = λ k ne. ap (λ (y : Node V). record { «record» = y.kept; volatile = y.volatile }) (get_or-set_other world.nodes n k x (fresh_node setup 0) ne);
+      now = get_or-set_same world.nodes n x (fresh_node setup 0) known;
+      others = λ k ne. get_or-set_other world.nodes n k x (fresh_node setup 0) ne;
     }
 
     -- what each decision owes: its step where its effect is carried out, and its write where that is cut
@@ -137,7 +138,7 @@ module _ {V : Type 0} (setup : Setup V) (values : (x y : V) → Decides (setup.s
             leaves : Passed tests → (after : World V) → Left setup values world log readable n (node_of world.nodes n) effect after → After world log after
             leaves passed after (as_it_was e) = unchanged after e
             leaves passed after (done log' sends e) =
-                let new : Node V = record { kept = changed_by effect.change (node_of world.nodes n).kept; volatile = effect.volatile } in
+                let new : NodeState V = record { kept = changed_by effect.change (node_of world.nodes n).kept; volatile = effect.volatile } in
                 record {
                   log' = log';
                   readable' = ap (λ (x : World V). x.entries) e;
@@ -145,7 +146,7 @@ module _ {V : Type 0} (setup : Setup V) (values : (x y : V) → Decides (setup.s
                       (owes.steps passed log' sends (state_of (set world.nodes n new) log') refl (moves n known new log')));
                 }
             leaves passed after (cut change c kept which e) =
-                let new : Node V = record { kept = kept; volatile = restarted kept } in
+                let new : NodeState V = record { kept = kept; volatile = restarted kept } in
                 record {
                   log' = log;
                   readable' = ap (λ (x : World V). x.entries) e ∙ readable;
@@ -322,7 +323,7 @@ module _ {V : Type 0} (setup : Setup V) (values : (x y : V) → Decides (setup.s
     }
 
     -- a message that is delivered, by its kind
-    delivered : (n : ℕ) → n < length world.nodes → (fate : Fate) (m : Message V) → messages.Has log m → addressed setup world n m ≡ true
+    delivered : (n : ℕ) → n < length world.nodes → (fate : Fate) (m : Message V) → messages.Has log m → is_for n m ≡ true
         → After world log (carried_out setup world n (node_of world.nodes n) fate (deliver_decided setup (node_of world.nodes n) n m)).world
     delivered n known fate (message.Join m) has to = follow n known fate _ _ (join_owes n m has (eqb-true _ _ to))
     delivered n known fate (message.Publication m) has to = follow n known fate _ _ (publication_owes n m has)
@@ -333,30 +334,30 @@ module _ {V : Type 0} (setup : Setup V) (values : (x y : V) → Decides (setup.s
         → After world log (carried_out setup world n (node_of world.nodes n) fate (decided_on setup world n (node_of world.nodes n) o)).world
     looked_up n known fate e None h = unchanged world refl
     looked_up n known fate e (Some (Err why)) h = unchanged world refl
-    looked_up n known fate e (Some (Ok m)) h = go (addressed setup world n m) refl
+    looked_up n known fate e (Some (Ok m)) h = go (is_for n m) refl
       where
         has : messages.Has log m
         has = record { entry = e; there = readable_entry log e m (ap (λ (es : List (Entry V)). slice_get es e) (sym readable) ∙ h) }
 
-        go : (b : Bool) → addressed setup world n m ≡ b
+        go : (b : Bool) → is_for n m ≡ b
             → After world log (carried_out setup world n (node_of world.nodes n) fate (decided_on setup world n (node_of world.nodes n) (Some (Ok m)))).world
         go true a =
             subst (λ (r : Result (Effect V) Refusal). After world log (carried_out setup world n (node_of world.nodes n) fate r).world)
-            (sym (cond-true (addressed setup world n m) _ _ a)) (delivered n known fate m has a)
+            (sym (cond-true (is_for n m) _ _ a)) (delivered n known fate m has a)
         go false a =
             subst (λ (r : Result (Effect V) Refusal). After world log (carried_out setup world n (node_of world.nodes n) fate r).world)
-            (sym (cond-false (addressed setup world n m) _ _ a)) (unchanged world refl)
+            (sym (cond-false (is_for n m) _ _ a)) (unchanged world refl)
 
     -- a call on a node that there is
-    on_known : (n : ℕ) (fate : Fate) (decision : Node V → Result (Effect V) Refusal)
+    on_known : (n : ℕ) (fate : Fate) (decision : NodeState V → Result (Effect V) Refusal)
         → (n < length world.nodes → After world log (carried_out setup world n (node_of world.nodes n) fate (decision (node_of world.nodes n))).world)
         → After world log (on_node setup world n fate decision).world
     on_known n fate decision h = go (slice_get world.nodes n) refl
       where
-        go : (o : Option (Node V)) → slice_get world.nodes n ≡ o → After world log (if_known setup world n fate decision o).world
+        go : (o : Option (NodeState V)) → slice_get world.nodes n ≡ o → After world log (if_known setup world n fate decision o).world
         go None e = unchanged world refl
         go (Some node) e =
-            subst (λ (x : Node V). After world log (carried_out setup world n x fate (decision x)).world)
+            subst (λ (x : NodeState V). After world log (carried_out setup world n x fate (decision x)).world)
             (sym (nth_getD world.nodes n node (fresh_node setup 0) e)) (h (nth_below world.nodes n node e))
 
     pub call_steps : (call : Call V) (fate : Fate) → After world log (called setup world call fate).world

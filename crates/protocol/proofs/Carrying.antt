@@ -6,7 +6,7 @@ use Rattle.protocol.specs.declared.change.Change.{Change}
 use Rattle.protocol.specs.declared.message.Message.{Message}
 use Rattle.protocol.specs.declared.record.Record.{Record}
 use Rattle.protocol.specs.Changes.{changed}
-use Rattle.protocol.specs.Decisions.{Node, Setup, Effect, restarted}
+use Rattle.protocol.specs.Decisions.{NodeState, Setup, Effect, restarted}
 use Rattle.protocol.specs.Positions.{position}
 use Rattle.protocol.specs.Calls.{Entry, entries_of, World, Fate, Outcome, is_message, Sent, sent, sent_unless, with_node_at, written, with_room, carried_out}
 use Rattle.protocol.proofs.Log as messages
@@ -25,7 +25,7 @@ Sends log log' (Some m) = messages.Sent log log' m
 module _ {V : Type 0} (setup : Setup V) (values : (x y : V) → Decides (setup.same_value x y) (x ≡ y))
     (world : World V) (log : List (Message V)) (readable : world.entries ≡ entries_of log) where
   -- what is left: the log afterwards, and the world
-  pub data Left (n : ℕ) (node : Node V) (effect : Effect V) (after : World V) : Type 0 where
+  pub data Left (n : ℕ) (node : NodeState V) (effect : Effect V) (after : World V) : Type 0 where
     as_it_was : after ≡ world → Left n node effect after
     done : (log' : List (Message V)) → Sends log log' effect.message
         → after ≡ with_node_at setup world n (record { kept = changed_by effect.change node.kept; volatile = effect.volatile }) (entries_of log')
@@ -78,7 +78,7 @@ module _ {V : Type 0} (setup : Setup V) (values : (x y : V) → Decides (setup.s
           let z : ◌≡◌ {A = ℕ} 0 1 = cc in
           absurd (omega arith)
 
-  module _ (n : ℕ) (node : Node V) (fate : Fate) (effect : Effect V) where
+  module _ (n : ℕ) (node : NodeState V) (fate : Fate) (effect : Effect V) where
     -- the same world, written otherwise
     same_world : (r r' : Record V) (es es' : List (Entry V)) → r ≡ r' → es ≡ es'
         → with_node_at setup world n (record { kept = r; volatile = effect.volatile }) es

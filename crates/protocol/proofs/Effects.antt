@@ -9,23 +9,6 @@ use Rattle.protocol.specs.declared.message.Publication.{Publication}
 use Rattle.protocol.specs.declared.message.Response.{Response}
 use Rattle.protocol.specs.declared.message.Commit.{Commit}
 
--- what a node has stored, and what it keeps in memory
-pub record StateOfNode (V : Type 0) : Type 0 where
-  pub «record» : Record V
-  pub volatile : Volatile
-
--- what a node has in memory after a restart
-abbrev pub reset : {V : Type 0} → Record V → Volatile
-reset r =
-    record {
-      join_votes = nobody;
-      started_join = false;
-      election_won = false;
-      last_published_version = 0;
-      last_published_configuration = r.last_accepted_configuration;
-      publish_votes = nobody;
-    }
-
 -- what a node has in memory after it has started a join
 abbrev pub ready : {V : Type 0} → Record V → Volatile
 ready r =

@@ -8,7 +8,7 @@ use Rattle.protocol.proofs.Setting.{Setting}
 use Rattle.protocol.proofs.LogInvariant.{LogInvariant}
 use Rattle.protocol.proofs.NodeInvariant.{NodeInvariant}
 use Rattle.protocol.proofs.NodeGrowth.{Unconcerned, node_grows}
-use Rattle.protocol.proofs.Effects.{StateOfNode}
+use Rattle.protocol.specs.Decisions.{NodeState}
 use Rattle.protocol.proofs.Steps.{State, stored, memory, Moves}
 
 -- both parts
@@ -27,10 +27,10 @@ module _ {V : Type 0} (S : Setting) {before after : State V} {n : ℕ} {r : Reco
       go : (k ≡ n) ⊎ (k ≡ n → ⊥) → NodeInvariant S log k (stored after k) (memory after k)
       go (inl e) =
           let here : NodeInvariant S log n (stored after n) (memory after n) =
-          subst (λ (s : StateOfNode V). NodeInvariant S log n s.«record» s.volatile) (sym moves.now) N in
+          subst (λ (s : NodeState V). NodeInvariant S log n s.kept s.volatile) (sym moves.now) N in
           subst (λ (x : ℕ). NodeInvariant S log x (stored after x) (memory after x)) (sym e) here
       go (inr other) =
-          subst (λ (s : StateOfNode V). NodeInvariant S log k s.«record» s.volatile) (sym (moves.others k other))
+          subst (λ (s : NodeState V). NodeInvariant S log k s.kept s.volatile) (sym (moves.others k other))
           (rest k other)
 
   -- a step that sends nothing

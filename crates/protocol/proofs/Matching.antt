@@ -10,7 +10,7 @@ use Rattle.protocol.specs.declared.message.Response.{Response}
 use Rattle.protocol.specs.declared.message.Commit.{Commit}
 use Rattle.protocol.specs.declared.message.Message.TheVariants as message
 use Rattle.protocol.specs.Decisions.{
-  Node,
+  NodeState,
   Setup,
   Effect,
   same_set,
@@ -79,12 +79,12 @@ implies false y h = refl
 same_set_of_messages : {X : Type 0} (a : List X) → a ≈ a
 same_set_of_messages a x = (λ h. h, λ h. h)
 
-module _ {V : Type 0} (setup : Setup V) (nodes : List (Node V)) (n : ℕ) (node' : Node V) (h : n < length nodes) where
+module _ {V : Type 0} (setup : Setup V) (nodes : List (NodeState V)) (n : ℕ) (node' : NodeState V) (h : n < length nodes) where
   -- node n is another node: what is read of it has moved ..
   at_n : get_or (set nodes n node') n (blank setup) ≡ node'
   at_n = get_or-set_same nodes n node' (blank setup) h
 
-  moved_at : {X : Type 0} (f : Node V → X) (x : X) → f node' ≡ x → (k : ℕ)
+  moved_at : {X : Type 0} (f : NodeState V → X) (x : X) → f node' ≡ x → (k : ℕ)
       → f (get_or (set nodes n node') k (blank setup)) ≡ cond (eqb k n) x (f (get_or nodes k (blank setup)))
   moved_at f x e k =
       ⊎_elim
@@ -96,12 +96,12 @@ module _ {V : Type 0} (setup : Setup V) (nodes : List (Node V)) (n : ℕ) (node'
       ∙ sym (cond-false (eqb k n) x (f (get_or nodes k (blank setup))) t))
       (cases_Bool (eqb k n))
 
-  moved : {X : Type 0} (f : Node V → X) (x : X) → f node' ≡ x
+  moved : {X : Type 0} (f : NodeState V → X) (x : X) → f node' ≡ x
       → ◌≡◌ {A = ℕ → X} (λ k. f (get_or (set nodes n node') k (blank setup))) ((λ k. f (get_or nodes k (blank setup))) EXCEPT![ n ]= x)
   moved f x e = λ i k. moved_at f x e k i
 
   -- .. or stayed, and the others' has stayed
-  stayed_at : {X : Type 0} (f : Node V → X) → f node' ≡ f (get_or nodes n (blank setup)) → (k : ℕ)
+  stayed_at : {X : Type 0} (f : NodeState V → X) → f node' ≡ f (get_or nodes n (blank setup)) → (k : ℕ)
       → f (get_or (set nodes n node') k (blank setup)) ≡ f (get_or nodes k (blank setup))
   stayed_at f e k =
       ⊎_elim
@@ -111,51 +111,51 @@ module _ {V : Type 0} (setup : Setup V) (nodes : List (Node V)) (n : ℕ) (node'
       (λ (t : k ≡ n → ⊥). ap f (get_or-set_other nodes n k node' (blank setup) t))
       (cases_eq k n)
 
-  stayed : {X : Type 0} (f : Node V → X) → f node' ≡ f (get_or nodes n (blank setup))
+  stayed : {X : Type 0} (f : NodeState V → X) → f node' ≡ f (get_or nodes n (blank setup))
       → ◌≡◌ {A = ℕ → X} (λ k. f (get_or (set nodes n node') k (blank setup))) (λ k. f (get_or nodes k (blank setup)))
   stayed f e = λ i k. stayed_at f e k i
 
 -- what is read of a node
 module _ {V : Type 0} where
-  abbrev cT : Node V → ℕ
+  abbrev cT : NodeState V → ℕ
   cT x = x.kept.current_term
 
-  abbrev lCC : Node V → NodeSet
+  abbrev lCC : NodeState V → NodeSet
   lCC x = x.kept.last_committed_configuration
 
-  abbrev lAT : Node V → ℕ
+  abbrev lAT : NodeState V → ℕ
   lAT x = x.kept.last_accepted_term
 
-  abbrev lAV : Node V → ℕ
+  abbrev lAV : NodeState V → ℕ
   lAV x = x.kept.last_accepted_version
 
-  abbrev lAVal : Node V → V
+  abbrev lAVal : NodeState V → V
   lAVal x = x.kept.last_accepted_value
 
-  abbrev lAC : Node V → NodeSet
+  abbrev lAC : NodeState V → NodeSet
   lAC x = x.kept.last_accepted_configuration
 
-  abbrev jV : Node V → NodeSet
+  abbrev jV : NodeState V → NodeSet
   jV x = x.volatile.join_votes
 
-  abbrev sJ : Node V → Bool
+  abbrev sJ : NodeState V → Bool
   sJ x = x.volatile.started_join
 
-  abbrev eW : Node V → Bool
+  abbrev eW : NodeState V → Bool
   eW x = x.volatile.election_won
 
-  abbrev lPV : Node V → ℕ
+  abbrev lPV : NodeState V → ℕ
   lPV x = x.volatile.last_published_version
 
-  abbrev lPC : Node V → NodeSet
+  abbrev lPC : NodeState V → NodeSet
   lPC x = x.volatile.last_published_configuration
 
-  abbrev pV : Node V → NodeSet
+  abbrev pV : NodeState V → NodeSet
   pV x = x.volatile.publish_votes
 
 module _ {V : Type 0} (setup : Setup V) (world : World V) (versions : ℕ → ℕ) (descendant : List model.Descendant) (n : ℕ) where
   -- the node, the states of the model before and after an effect
-  abbrev pub the_node : Node V
+  abbrev pub the_node : NodeState V
   the_node = get_or world.nodes n (blank setup)
 
   abbrev pub N : ℕ
@@ -171,12 +171,12 @@ module _ {V : Type 0} (setup : Setup V) (world : World V) (versions : ℕ → �
   no_message : (es : List (Entry V)) → Means world None es → all_meant N es ≈ all_meant N world.entries
   no_message es m = subst (λ (l : List (model.Message V)). all_meant N es ≈ l) (append-nil (all_meant N world.entries)) (m N)
 
-  mov : (effect : Effect V) → n < N → {X : Type 0} (f : Node V → X) (x : X) → f (node_after the_node effect) ≡ x
+  mov : (effect : Effect V) → n < N → {X : Type 0} (f : NodeState V → X) (x : X) → f (node_after the_node effect) ≡ x
       → ◌≡◌ {A = ℕ → X} (λ k. f (get_or (set world.nodes n (node_after the_node effect)) k (blank setup)))
       ((λ k. f (get_or world.nodes k (blank setup))) EXCEPT![ n ]= x)
   mov effect h f x e = moved setup world.nodes n (node_after the_node effect) h f x e
 
-  sty : (effect : Effect V) → n < N → {X : Type 0} (f : Node V → X) → f (node_after the_node effect) ≡ f the_node
+  sty : (effect : Effect V) → n < N → {X : Type 0} (f : NodeState V → X) → f (node_after the_node effect) ≡ f the_node
       → ◌≡◌ {A = ℕ → X} (λ k. f (get_or (set world.nodes n (node_after the_node effect)) k (blank setup)))
       (λ k. f (get_or world.nodes k (blank setup)))
   sty effect h f e = stayed setup world.nodes n (node_after the_node effect) h f e
@@ -449,7 +449,7 @@ module _ {V : Type 0} (setup : Setup V) (world : World V) (versions : ℕ → �
       let Q : Type 0 = ◌≡◌ {A = ℕ → ℕ} (after descendant E es).lastPublishedVersion before.lastPublishedVersion in
       let won : Bool = elects setup the_node votes && not (eW the_node) in
       let test : (not (eW the_node) && (after descendant E es).electionWon n) ≡ won =
-      ap (λ (x : Node V). not (eW the_node) && eW x) here ∙ and_swap (not (eW the_node)) (elects setup the_node votes)
+      ap (λ (x : NodeState V). not (eW the_node) && eW x) here ∙ and_swap (not (eW the_node)) (elects setup the_node votes)
       in
       record {
         m = join_of j;
@@ -468,7 +468,7 @@ module _ {V : Type 0} (setup : Setup V) (world : World V) (versions : ℕ → �
         c6 = mov E h jV votes refl;
         c7 = mov E h eW (model.IsElectionQuorum N setup.quorum before n ((after descendant E es).joinVotes n))
             (and_swap (setup.quorum votes (lAC the_node)) (setup.quorum votes (lCC the_node))
-            ∙ ap (λ (x : Node V). setup.quorum (jV x) (lCC the_node) && setup.quorum (jV x) (lAC the_node)) (sym here));
+            ∙ ap (λ (x : NodeState V). setup.quorum (jV x) (lCC the_node) && setup.quorum (jV x) (lAC the_node)) (sym here));
         c8 = subst (λ (b : Bool). IF b THEN P ELSE Q) (sym test)
             (decide won P Q
             (λ t. mov E h lPV (lAV the_node) (cond-true won (lAV the_node) (lPV the_node) t))
@@ -537,7 +537,7 @@ module _ {V : Type 0} (setup : Setup V) (world : World V) (versions : ℕ → �
       let c3 = equal_here q.term (cT the_node) p.1.0 in
       let c4 = equal_here q.version (lPV the_node) p.1.1.0 in
       let test : model.IsPublishQuorum N setup.quorum before n ((after descendant E es).publishVotes n) ≡ decides setup the_node votes =
-      ap (λ (x : Node V). setup.quorum (pV x) (lCC the_node) && setup.quorum (pV x) (lPC the_node)) here
+      ap (λ (x : NodeState V). setup.quorum (pV x) (lCC the_node) && setup.quorum (pV x) (lPC the_node)) here
       in
       record {
         m = response_of q;

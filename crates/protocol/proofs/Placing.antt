@@ -9,7 +9,7 @@ use Rattle.protocol.specs.declared.message.Message.{Message}
 use Rattle.protocol.specs.declared.refusal.Refusal.{Refusal}
 use Rattle.protocol.specs.declared.refusal.Refusal.TheVariants.{WriteUnfinished}
 use Rattle.protocol.specs.Changes.{changed}
-use Rattle.protocol.specs.Decisions.{Node, Setup, Effect, restarted}
+use Rattle.protocol.specs.Decisions.{NodeState, Setup, Effect, restarted}
 use Rattle.protocol.specs.Positions.{position}
 use Rattle.protocol.specs.Model.{Message as Meaning, ◌∈◌, ◌≈◌, ◌∪◌}
 use Rattle.protocol.specs.Steps.{meant, meant_by, all_meant, messages_of, blank, Room, Finishes, CutShort, Taken}
@@ -82,7 +82,7 @@ abbrev pub Means : {V : Type 0} → World V → Option (Message V) → List (Ent
 Means world mo es = (N : ℕ) → all_meant N es ≈ (all_meant N world.entries ∪ meant_if N mo)
 
 -- the node that an effect leaves
-abbrev pub node_after : {V : Type 0} → Node V → Effect V → Node V
+abbrev pub node_after : {V : Type 0} → NodeState V → Effect V → NodeState V
 node_after node effect = record { kept = changed_by effect.change node.kept; volatile = effect.volatile }
 
 -- an entry that is a message is one of the messages, and the other way round
@@ -180,7 +180,7 @@ module _ {V : Type 0} (setup : Setup V) (values : (x y : V) → Decides (setup.s
           (λ room. both_ways (ltb (length world.entries) world.capacity) q (lt-ltb (length world.entries) world.capacity room)))
 
   -- An outcome: the effect is carried out, or the call is refused.
-  pub data Carried (n : ℕ) (node : Node V) (fate : Fate) (effect : Effect V) (outcome : Outcome V) : Type 0 where
+  pub data Carried (n : ℕ) (node : NodeState V) (fate : Fate) (effect : Effect V) (outcome : Outcome V) : Type 0 where
     carried : Room setup world effect.message → Finishes setup world fate effect.change
         → Taken setup outcome
         → (es : List (Entry V)) → Means world effect.message es
@@ -197,7 +197,7 @@ module _ {V : Type 0} (setup : Setup V) (values : (x y : V) → Decides (setup.s
       let z : ◌≡◌ {A = ℕ} 0 1 = cc in
       omega arith
 
-  module _ (n : ℕ) (node : Node V) (fate : Fate) (effect : Effect V) where
+  module _ (n : ℕ) (node : NodeState V) (fate : Fate) (effect : Effect V) where
     carrying : Carried n node fate effect (carried_out setup world n node fate (Ok effect))
     carrying = go (tried effect.message)
       where
@@ -234,7 +234,7 @@ module _ {V : Type 0} (setup : Setup V) (values : (x y : V) → Decides (setup.s
             (λ r h. none r)
 
   -- A call on a node is taken exactly when the node exists, its decision is an effect, and that is carried out.
-  pub record Went (n : ℕ) (fate : Fate) (decision : Node V → Result (Effect V) Refusal) : Type 0 where
+  pub record Went (n : ℕ) (fate : Fate) (decision : NodeState V → Result (Effect V) Refusal) : Type 0 where
     pub known : n < length world.nodes
     pub effect : Effect V
     pub decides : decision (get_or world.nodes n (blank setup)) ≡ Ok effect
@@ -246,14 +246,14 @@ module _ {V : Type 0} (setup : Setup V) (values : (x y : V) → Decides (setup.s
     pub leaves : (on_node setup world n fate decision).world
         ≡ with_node_at setup world n (node_after (get_or world.nodes n (blank setup)) effect) entries
 
-  module _ (n : ℕ) (fate : Fate) (decision : Node V → Result (Effect V) Refusal) where
+  module _ (n : ℕ) (fate : Fate) (decision : NodeState V → Result (Effect V) Refusal) where
     pub went : Taken setup (on_node setup world n fate decision) → Went n fate decision
     went t = ⊎_elim here past (cases_lt n (length world.nodes))
       where
         past : length world.nodes ≤ n → Went n fate decision
         past h =
             absurd (refused_not_taken (if_known setup world n fate decision None) _ refl
-            (subst (λ (o : Option (Node V)). Taken setup (if_known setup world n fate decision o)) (slice_get_past world.nodes n h) t))
+            (subst (λ (o : Option (NodeState V)). Taken setup (if_known setup world n fate decision o)) (slice_get_past world.nodes n h) t))
 
         here : n < length world.nodes → Went n fate decision
         here h = go (decision (get_or world.nodes n (blank setup))) refl
@@ -265,7 +265,7 @@ module _ {V : Type 0} (setup : Setup V) (values : (x y : V) → Decides (setup.s
             go (Err why) e =
                 absurd (refused_not_taken (carried_out setup world n (get_or world.nodes n (blank setup)) fate (Err why)) _ refl
                 (subst (λ (r : Result (Effect V) Refusal). Taken setup (carried_out setup world n (get_or world.nodes n (blank setup)) fate r)) e
-                (subst (λ (o : Option (Node V)). Taken setup (if_known setup world n fate decision o)) is t)))
+                (subst (λ (o : Option (NodeState V)). Taken setup (if_known setup world n fate decision o)) is t)))
             go (Ok effect) e = finish (carrying n (get_or world.nodes n (blank setup)) fate effect)
               where
                 same : on_node setup world n fate decision ≡ carried_out setup world n (get_or world.nodes n (blank setup)) fate (Ok effect)
@@ -302,19 +302,19 @@ module _ {V : Type 0} (setup : Setup V) (values : (x y : V) → Decides (setup.s
         finish (not_carried not_taken none) = absurd (none room finishes)
 
   -- Where all but the write goes through, the node keeps one of two records, and has restarted.
-  abbrev pub cut_node : Node V → Fate → Change V → Node V
+  abbrev pub cut_node : NodeState V → Fate → Change V → NodeState V
   cut_node node fate change =
       let kept = cond fate.keeps_new (changed change node.kept) node.kept in
       record { kept = kept; volatile = restarted kept }
 
-  pub record Halted (n : ℕ) (fate : Fate) (decision : Node V → Result (Effect V) Refusal) (effect : Effect V) (change : Change V) : Type 0 where
+  pub record Halted (n : ℕ) (fate : Fate) (decision : NodeState V → Result (Effect V) Refusal) (effect : Effect V) (change : Change V) : Type 0 where
     pub answers : (on_node setup world n fate decision).answer ≡ Err WriteUnfinished
     pub leaves : (on_node setup world n fate decision).world
         ≡ with_node_at setup world n (cut_node (get_or world.nodes n (blank setup)) fate change) world.entries
     pub entries : List (Entry V)
     pub means : Means world effect.message entries
 
-  pub halts : (n : ℕ) (fate : Fate) (decision : Node V → Result (Effect V) Refusal) → n < length world.nodes → (effect : Effect V)
+  pub halts : (n : ℕ) (fate : Fate) (decision : NodeState V → Result (Effect V) Refusal) → n < length world.nodes → (effect : Effect V)
       → decision (get_or world.nodes n (blank setup)) ≡ Ok effect → Room setup world effect.message → fate.finished ≡ false
       → (change : Change V) → effect.change ≡ Some change → Halted n fate decision effect change
   halts n fate decision h effect e room unfinished change c = go (tried effect.message)
@@ -340,18 +340,18 @@ module _ {V : Type 0} (setup : Setup V) (values : (x y : V) → Decides (setup.s
           }
 
   -- A call on a node ends in one of three ways.
-  pub data Ended (n : ℕ) (fate : Fate) (decision : Node V → Result (Effect V) Refusal) : Type 0 where
+  pub data Ended (n : ℕ) (fate : Fate) (decision : NodeState V → Result (Effect V) Refusal) : Type 0 where
     through : Taken setup (on_node setup world n fate decision) → Ended n fate decision
     halted : n < length world.nodes → (effect : Effect V) → decision (get_or world.nodes n (blank setup)) ≡ Ok effect
         → Room setup world effect.message → CutShort setup world fate effect.change
         → (es : List (Entry V)) → Means world effect.message es → Ended n fate decision
     unmoved : (on_node setup world n fate decision).world ≡ world → Ended n fate decision
 
-  pub ended : (n : ℕ) (fate : Fate) (decision : Node V → Result (Effect V) Refusal) → Ended n fate decision
+  pub ended : (n : ℕ) (fate : Fate) (decision : NodeState V → Result (Effect V) Refusal) → Ended n fate decision
   ended n fate decision = ⊎_elim here past (cases_lt n (length world.nodes))
     where
       past : length world.nodes ≤ n → Ended n fate decision
-      past h = unmoved (ap (λ (o : Option (Node V)). (if_known setup world n fate decision o).world) (slice_get_past world.nodes n h))
+      past h = unmoved (ap (λ (o : Option (NodeState V)). (if_known setup world n fate decision o).world) (slice_get_past world.nodes n h))
 
       here : n < length world.nodes → Ended n fate decision
       here h = decide (decision (get_or world.nodes n (blank setup))) refl

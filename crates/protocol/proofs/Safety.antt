@@ -1,5 +1,7 @@
 -- Nobody can split the history: in every state that steps lead to from a fresh start, the log has one history.
 use Rattle.protocol.specs.History.{OneHistory}
+use Rattle.protocol.specs.Runs.{NoRunSplitsTheHistory}
+use Rattle.protocol.proofs.Unsplit.{unsplit}
 use Rattle.protocol.proofs.Setting.{Setting}
 use Rattle.protocol.proofs.Steps.{State, Reached}
 use Rattle.protocol.proofs.Steps.Reached.{start, next}
@@ -20,3 +22,7 @@ invariant_gives_one_history S {s} I = one_history S s.log I.of_log
 -- safety
 pub one_history_is_kept : {V : Type 0} (S : Setting) (value : V) (s : State V) → Reached S value s → OneHistory s.log
 one_history_is_kept S value s reached = invariant_gives_one_history S (reached_has_invariant S value reached)
+
+-- so no run splits the history
+pub no_run_splits_the_history : (V : Type 0) → NoRunSplitsTheHistory V
+no_run_splits_the_history V = unsplit V one_history_is_kept

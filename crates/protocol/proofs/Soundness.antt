@@ -5,13 +5,14 @@ use Rattle.std.proofs.lemmas.List.{length-set, length-map, get_or-set_same, get_
 use Rattle.std.proofs.lemmas.Bool.{and_parts, and_from, ltb-true, lt-ltb, leb-false, eqb-false, cases_eq, cases_Bool, cond-true, cond-false, not-false, both_ways}
 use Rattle.quorum.specs.declared.node_set.NodeSet.{NodeSet}
 use Rattle.quorum.specs.Sets.{nobody, with_node, legal_configuration}
+use Rattle.protocol.specs.Messages.{is_for}
 use Rattle.protocol.specs.declared.message.Message.{Message}
 use Rattle.protocol.specs.declared.message.Message.TheVariants as message
 use Rattle.protocol.specs.declared.record.Record.{Record}
 use Rattle.protocol.specs.declared.refusal.Refusal.{Refusal}
 use Rattle.protocol.specs.Changes.{changed}
 use Rattle.protocol.specs.Decisions.{
-  Node,
+  NodeState,
   Setup,
   Effect,
   Test,
@@ -35,7 +36,7 @@ use Rattle.protocol.specs.Decisions.{
   restart_effect,
   deliver_decided,
 }
-use Rattle.protocol.specs.Calls.{Entry, entries_of, World, Fate, Call, bootstrap, start_join, publish, deliver, restart, fresh_node, called, node_called, decision, decided_on, addressed, carried_out, if_known, with_node_at}
+use Rattle.protocol.specs.Calls.{Entry, entries_of, World, Fate, Call, bootstrap, start_join, publish, deliver, restart, fresh_node, called, node_called, decision, decided_on, carried_out, if_known, with_node_at}
 use Rattle.protocol.specs.Messages.{legal_message}
 use Rattle.protocol.specs.Runs.{Opened, Reached, at_opening, by_call}
 use Rattle.protocol.specs.Steps.{blank}
@@ -46,7 +47,7 @@ use Rattle.protocol.proofs.CallsAreSteps.{nth_below, nth_getD, readable_entry}
 use Rattle.protocol.proofs.Placing.{node_after}
 
 -- what holds of a node while its accepted configuration is empty
-pub record Bare {V : Type 0} (node : Node V) : Type 0 where
+pub record Bare {V : Type 0} (node : NodeState V) : Type 0 where
   pub term : node.kept.last_accepted_term ≡ 0
   pub committed : node.kept.last_committed_configuration ≡ nobody
   pub published : node.volatile.last_published_version ≡ 0
@@ -62,7 +63,7 @@ LegalRecord N r =
     × (legal_configuration N r.last_committed_configuration ≡ true)
 
 -- of a node among N: its accepted configuration is empty, or both its configurations are legal
-pub data Configured {V : Type 0} (N : ℕ) (node : Node V) : Type 0 where
+pub data Configured {V : Type 0} (N : ℕ) (node : NodeState V) : Type 0 where
   unset : node.kept.last_accepted_configuration ≡ nobody → Bare node → Configured N node
   legal : LegalRecord N node.kept → Configured N node
 
@@ -73,7 +74,7 @@ legal_not_empty N s h e =
     let z : s.bits ≡ 0 = ap (λ (x : NodeSet). x.bits) e in
     omega arith
 
-module _ {V : Type 0} {N : ℕ} {node : Node V} where
+module _ {V : Type 0} {N : ℕ} {node : NodeState V} where
   pub bare_where_empty : Configured N node → node.kept.last_accepted_configuration ≡ nobody → Bare node
   bare_where_empty (unset e b) empty = b
   bare_where_empty (legal both) empty = absurd (legal_not_empty N _ both.0 empty)
@@ -116,11 +117,11 @@ module _ {V : Type 0} (setup : Setup V) where
   Legal N (Some m) = legal_message N m ≡ true
 
   -- of an effect
-  record Good (N : ℕ) (node : Node V) (effect : Effect V) : Type 0 where
+  record Good (N : ℕ) (node : NodeState V) (effect : Effect V) : Type 0 where
     configured : Configured N (node_after node effect)
     sends : Legal N effect.message
 
-  module _ (world : World V) (sound : Sound world) (node : Node V) (u : Configured (length world.nodes) node) where
+  module _ (world : World V) (sound : Sound world) (node : NodeState V) (u : Configured (length world.nodes) node) where
     abbrev N : ℕ
     N = length world.nodes
 
@@ -179,11 +180,11 @@ module _ {V : Type 0} (setup : Setup V) where
       good_delivery (Some (Err why)) in-log h = impossible cc
       good_delivery (Some (Ok m)) in-log h =
           ⊎_elim
-          (λ (t : addressed setup world n m ≡ true). by_kind m (sound.messages m (in-log m refl)) (sym (cond-true (addressed setup world n m) _ _ t) ∙ h))
-          (λ (f : addressed setup world n m ≡ false).
-          let q : ◌≡◌ {A = Result (Effect V) Refusal} (Err _) (Ok e) = sym (cond-false (addressed setup world n m) _ _ f) ∙ h in
+          (λ (t : is_for n m ≡ true). by_kind m (sound.messages m (in-log m refl)) (sym (cond-true (is_for n m) _ _ t) ∙ h))
+          (λ (f : is_for n m ≡ false).
+          let q : ◌≡◌ {A = Result (Effect V) Refusal} (Err _) (Ok e) = sym (cond-false (is_for n m) _ _ f) ∙ h in
           impossible cc)
-          (cases_Bool (addressed setup world n m))
+          (cases_Bool (is_for n m))
 
     good : (call : Call V) → node_called setup world call < N → (e : Effect V) → decision setup world call node ≡ Ok e → Good N node e
     good (bootstrap n) known e =
@@ -220,7 +221,7 @@ module _ {V : Type 0} (setup : Setup V) where
     good (restart n) known e = by_tests [] (restart_effect setup node) e (λ p. record { configured = after-restart u; sends = tt })
 
   -- the world with another node, and with this log
-  sound_after : (world : World V) → Sound world → (n : ℕ) → n < length world.nodes → (node : Node V) → Configured (length world.nodes) node
+  sound_after : (world : World V) → Sound world → (n : ℕ) → n < length world.nodes → (node : NodeState V) → Configured (length world.nodes) node
       → (log' : List (Message V)) → ((m : Message V) → Has log' m → legal_message (length world.nodes) m ≡ true)
       → Sound (with_node_at setup world n node (entries_of log'))
   sound_after world sound n known node u log' ms =
@@ -246,7 +247,7 @@ module _ {V : Type 0} (setup : Setup V) where
     log = [];
     readable = opened.cleared;
     nodes = λ n.
-        subst (λ (nodes : List (Node V)). Configured (length world.nodes) (get_or nodes n (blank setup))) (sym opened.nodes)
+        subst (λ (nodes : List (NodeState V)). Configured (length world.nodes) (get_or nodes n (blank setup))) (sym opened.nodes)
         (fresh opened.versions n);
     messages = λ m h. let t = h.there in impossible cc;
     initial = subst (λ (N : ℕ). legal_configuration N setup.initial_configuration ≡ true)
@@ -274,7 +275,7 @@ module _ {V : Type 0} (setup : Setup V) where
         all_legal (Some x) l log' s m has =
             ⊎_elim (λ old. sound.messages m old) (λ (new : m ≡ x). rw new l) ((sent_adds s).new m has)
 
-        carried : n < length world.nodes → (node : Node V) → Configured (length world.nodes) node
+        carried : n < length world.nodes → (node : NodeState V) → Configured (length world.nodes) node
             → (effect : Effect V) → Good (length world.nodes) node effect → (after : World V)
             → Left setup values world sound.log sound.readable n node effect after → Sound after
         carried known node u effect g after (as_it_was e) = subst Sound (sym e) sound
@@ -295,7 +296,7 @@ module _ {V : Type 0} (setup : Setup V) where
                 → Configured (length world.nodes) (record { kept = r'; volatile = restarted r' })
             again same = subst (λ (r : Record V). Configured (length world.nodes) (record { kept = r; volatile = restarted r })) same
 
-        go : (found : Option (Node V)) → slice_get world.nodes n ≡ found → Sound (if_known setup world n fate (decision setup world call) found).world
+        go : (found : Option (NodeState V)) → slice_get world.nodes n ≡ found → Sound (if_known setup world n fate (decision setup world call) found).world
         go None is = sound
         go (Some node) is = decide (decision setup world call node) refl
           where
@@ -312,7 +313,7 @@ module _ {V : Type 0} (setup : Setup V) where
                 (left setup values world sound.log sound.readable n node fate effect)
 
     -- the message that a call on a sound world sends, if it sends one, is legal
-    pub sends_legal : (world : World V) → Sound world → (call : Call V) (node : Node V) → slice_get world.nodes (node_called setup world call) ≡ Some node
+    pub sends_legal : (world : World V) → Sound world → (call : Call V) (node : NodeState V) → slice_get world.nodes (node_called setup world call) ≡ Some node
         → (effect : Effect V) → decision setup world call node ≡ Ok effect → Legal (length world.nodes) effect.message
     sends_legal world sound call node is effect e =
         let n = node_called setup world call in

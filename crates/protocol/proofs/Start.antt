@@ -8,7 +8,7 @@ use Rattle.protocol.proofs.Log.{Has, impossible}
 use Rattle.protocol.proofs.LogInvariant.{LogInvariant}
 use Rattle.protocol.proofs.NodeInvariant.{NodeInvariant}
 use Rattle.protocol.proofs.NodeInvariant.Accepted.{nothing_yet}
-use Rattle.protocol.proofs.Effects.{StateOfNode, reset}
+use Rattle.protocol.specs.Decisions.{NodeState, restarted}
 use Rattle.protocol.proofs.Steps.{State, FreshNode, Fresh}
 use Rattle.protocol.proofs.Votes.{never, no_vote, no_bits}
 use Rattle.protocol.proofs.Invariant.{Invariant}
@@ -38,8 +38,8 @@ empty_log S =
     }
 
 -- a fresh node, its memory as after a restart
-fresh_record : {V : Type 0} (S : Setting) (n : ℕ) (s : StateOfNode V) → FreshNode s
-    → NodeInvariant S [] n s.«record» (reset s.«record»)
+fresh_record : {V : Type 0} (S : Setting) (n : ℕ) (s : NodeState V) → FreshNode s
+    → NodeInvariant S [] n s.kept (restarted s.kept)
 fresh_record S n s f =
     record {
       joins_are_past = λ j h. nothing h;
@@ -58,17 +58,17 @@ fresh_record S n s f =
       votes_are_responses = λ k m. no_vote k m;
     }
   where
-    configuration : s.«record».last_accepted_configuration ≡ nobody
-    configuration = no_bits s.«record».last_accepted_configuration f.no_configuration
+    configuration : s.kept.last_accepted_configuration ≡ nobody
+    configuration = no_bits s.kept.last_accepted_configuration f.no_configuration
 
-    committed : s.«record».last_committed_configuration ≡ nobody
-    committed = no_bits s.«record».last_committed_configuration f.no_committed_configuration
+    committed : s.kept.last_committed_configuration ≡ nobody
+    committed = no_bits s.kept.last_committed_configuration f.no_committed_configuration
 
 -- a fresh node
-fresh_node : {V : Type 0} (S : Setting) (n : ℕ) (s : StateOfNode V) → FreshNode s
-    → NodeInvariant S [] n s.«record» s.volatile
+fresh_node : {V : Type 0} (S : Setting) (n : ℕ) (s : NodeState V) → FreshNode s
+    → NodeInvariant S [] n s.kept s.volatile
 fresh_node S n s f =
-    subst (λ (w : Volatile). NodeInvariant S [] n s.«record» w) (sym f.no_memory) (fresh_record S n s f)
+    subst (λ (w : Volatile). NodeInvariant S [] n s.kept w) (sym f.no_memory) (fresh_record S n s f)
 
 -- a fresh start has the invariant
 pub fresh_start_has_invariant : {V : Type 0} (S : Setting) {s : State V} → Fresh s → Invariant S s

@@ -11,7 +11,7 @@ use Rattle.protocol.specs.declared.change.Change.{Change}
 use Rattle.protocol.specs.declared.record.Record.{Record}
 use Rattle.protocol.specs.declared.refusal.Refusal.{Refusal}
 use Rattle.protocol.specs.Changes.{changed}
-use Rattle.protocol.specs.Decisions.{Node, Setup, Effect, Test, decided, restarted, bootstrap_tests, bootstrap_effect, start_join_tests, start_join_effect, publish_tests, publish_effect, join_tests, join_effect, publication_tests, publication_effect, response_tests, response_effect, commit_tests, commit_effect, restart_effect}
+use Rattle.protocol.specs.Decisions.{NodeState, Setup, Effect, Test, decided, restarted, bootstrap_tests, bootstrap_effect, start_join_tests, start_join_effect, publish_tests, publish_effect, join_tests, join_effect, publication_tests, publication_effect, response_tests, response_effect, commit_tests, commit_effect, restart_effect}
 use Rattle.protocol.specs.Calls.{Entry, World, Fate, Call, bootstrap, start_join, publish, deliver, restart, fresh_node, called, node_called, decision, decided_on, with_node_at}
 use Rattle.protocol.specs.Runs.{Opened}
 use Rattle.protocol.specs.Model as model
@@ -146,7 +146,7 @@ module _ {V : Type 0} (setup : Setup V) (world : World V) (versions : ℕ → �
 
   -- a delivery, by the entry that is looked up
   module _ (n : ℕ) where
-    abbrev node : Node V
+    abbrev node : NodeState V
     node = get_or world.nodes n (blank setup)
 
     record DoesDelivery (found : Option (Entry V)) (effect : Effect V) : Type 0 where
@@ -321,7 +321,7 @@ module _ {V : Type 0} (setup : Setup V) (world : World V) (versions : ℕ → �
   abbrev place : ℕ
   place = node_called setup world call
 
-  abbrev called_node : Node V
+  abbrev called_node : NodeState V
   called_node = get_or world.nodes place (blank setup)
 
   abbrev longer : List model.Descendant
@@ -356,7 +356,7 @@ module _ {V : Type 0} (setup : Setup V) (world : World V) (versions : ℕ → �
       → model.RestartNode (length world.nodes) setup.quorum (denoted setup versions descendant world)
       (denoted setup versions descendant (called setup world call fate).world) place
   restarts s old =
-      let X : Record V → Node V = λ r. record { kept = r; volatile = restarted r } in
+      let X : Record V → NodeState V = λ r. record { kept = r; volatile = restarted r } in
       let r : model.RestartNode (length world.nodes) setup.quorum (denoted setup versions descendant world)
       (state setup versions descendant (length world.nodes) (set world.nodes place (X called_node.kept)) world.entries) place =
       does_restart setup world versions descendant place s.decided_so.known world.entries no_more
@@ -377,7 +377,7 @@ module _ {V : Type 0} (setup : Setup V) (world : World V) (versions : ℕ → �
       let d = s.decided_so in
       let effect = d.effect in
       let N = length world.nodes in
-      let X : Record V → Node V = λ r. record { kept = r; volatile = restarted r } in
+      let X : Record V → NodeState V = λ r. record { kept = r; volatile = restarted r } in
       let node₁ = node_after called_node effect in
       let nodes₁ = set world.nodes place node₁ in
       let world₁ : World V = with_node_at setup world place node₁ world.entries in
@@ -393,9 +393,9 @@ module _ {V : Type 0} (setup : Setup V) (world : World V) (versions : ℕ → �
       in
       let r₂ : model.RestartNode (length nodes₁) setup.quorum (state setup versions longer (length nodes₁) nodes₁ world.entries)
       (state setup versions longer (length nodes₁) (set world.nodes place (X node₁.kept)) world.entries) place =
-      subst (λ (l : List (Node V)). model.RestartNode (length nodes₁) setup.quorum (state setup versions longer (length nodes₁) nodes₁ world.entries)
+      subst (λ (l : List (NodeState V)). model.RestartNode (length nodes₁) setup.quorum (state setup versions longer (length nodes₁) nodes₁ world.entries)
       (state setup versions longer (length nodes₁) l world.entries) place)
-      (ap (λ (x : Node V). set nodes₁ place (X x.kept)) there ∙ set_twice world.nodes place node₁ (X node₁.kept)) r₁
+      (ap (λ (x : NodeState V). set nodes₁ place (X x.kept)) there ∙ set_twice world.nodes place node₁ (X node₁.kept)) r₁
       in
       let r₃ : model.RestartNode N setup.quorum (state setup versions longer N nodes₁ world.entries)
       (state setup versions longer N (set world.nodes place (X node₁.kept)) world.entries) place =
@@ -443,7 +443,7 @@ module _ {V : Type 0} (setup : Setup V) (world : World V) (opened : Opened setup
   fresh_at (v ∷ versions) (suc n) = fresh_at versions n
 
   node_at : (n : ℕ) → get_or world.nodes n (blank setup) ≡ fresh_node setup (get_or opened.versions n 0)
-  node_at n = ap (λ (nodes : List (Node V)). get_or nodes n (blank setup)) opened.nodes ∙ fresh_at opened.versions n
+  node_at n = ap (λ (nodes : List (NodeState V)). get_or nodes n (blank setup)) opened.nodes ∙ fresh_at opened.versions n
 
   as_many : length world.nodes ≡ length opened.versions
   as_many = ap length opened.nodes ∙ length-map opened.versions (fresh_node setup)

@@ -13,9 +13,8 @@ use Rattle.protocol.specs.declared.message.Commit.{Commit}
 use Rattle.protocol.proofs.Setting.{Setting}
 use Rattle.protocol.proofs.Log.{Has, Sent}
 use Rattle.protocol.proofs.Points.{Upto}
+use Rattle.protocol.specs.Decisions.{NodeState, restarted}
 use Rattle.protocol.proofs.Effects.{
-  StateOfNode,
-  reset,
   ready,
   bootstrapped,
   in_term,
@@ -33,12 +32,12 @@ use Rattle.protocol.proofs.Effects.{
 
 -- every node by its number, and the log
 pub record State (V : Type 0) : Type 0 where
-  pub node : ℕ → StateOfNode V
+  pub node : ℕ → NodeState V
   pub log : List (Message V)
 
 -- what a node has stored
 abbrev pub stored : {V : Type 0} → State V → ℕ → Record V
-stored s n = (s.node n).«record»
+stored s n = (s.node n).kept
 
 -- what a node has in memory
 abbrev pub memory : {V : Type 0} → State V → ℕ → Volatile
@@ -106,7 +105,7 @@ module _ {V : Type 0} (S : Setting) (value : V) (log : List (Message V)) (r : Re
 
 -- node n is now as these say, and every other node is as it was
 pub record Moves {V : Type 0} (before after : State V) (n : ℕ) (r : Record V) (w : Volatile) : Type 0 where
-  pub now : after.node n ≡ record { «record» = r; volatile = w }
+  pub now : after.node n ≡ record { kept = r; volatile = w }
   pub others : (k : ℕ) → (k ≡ n → ⊥) → after.node k ≡ before.node k
 
 -- a step from one state to another; the value is the one to bootstrap with
@@ -147,22 +146,22 @@ pub data Step {V : Type 0} (S : Setting) (value : V) (before after : State V) : 
       → Moves before after n (marked (stored before n)) (memory before n)
       → after.log ≡ before.log → Step S value before after
   restart : (n : ℕ)
-      → Moves before after n (stored before n) (reset (stored before n))
+      → Moves before after n (stored before n) (restarted (stored before n))
       → after.log ≡ before.log → Step S value before after
   -- a write that a power cut broke off: the store has the record as it was or the new one, and the node is reset
   unfinished_write : (n : ℕ) (written kept : Record V)
       → Write S value before.log (stored before n) (memory before n) written
       → (kept ≡ stored before n) ⊎ (kept ≡ written)
-      → Moves before after n kept (reset kept)
+      → Moves before after n kept (restarted kept)
       → after.log ≡ before.log → Step S value before after
 
 -- A node that was never started: its terms are 0 and its configurations empty. Version and value do not matter.
-pub record FreshNode {V : Type 0} (s : StateOfNode V) : Type 0 where
-  pub no_term : s.«record».current_term ≡ 0
-  pub no_accepted_term : s.«record».last_accepted_term ≡ 0
-  pub no_configuration : s.«record».last_accepted_configuration.bits ≡ 0
-  pub no_committed_configuration : s.«record».last_committed_configuration.bits ≡ 0
-  pub no_memory : s.volatile ≡ reset s.«record»
+pub record FreshNode {V : Type 0} (s : NodeState V) : Type 0 where
+  pub no_term : s.kept.current_term ≡ 0
+  pub no_accepted_term : s.kept.last_accepted_term ≡ 0
+  pub no_configuration : s.kept.last_accepted_configuration.bits ≡ 0
+  pub no_committed_configuration : s.kept.last_committed_configuration.bits ≡ 0
+  pub no_memory : s.volatile ≡ restarted s.kept
 
 -- the state before the first step
 pub record Fresh {V : Type 0} (s : State V) : Type 0 where

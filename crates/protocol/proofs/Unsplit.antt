@@ -1,7 +1,7 @@
 -- No run of calls splits the history.
 use Rattle.std.proofs.Common.{◌≡◌, ℕ, zero, suc, ◌⊎◌, List, [], ◌∷◌, map, get_or, sym, refl, ap, ◌∙◌, subst, inl, inr}
 use Rattle.protocol.specs.declared.message.Message.{Message}
-use Rattle.protocol.specs.Decisions.{Node, Setup}
+use Rattle.protocol.specs.Decisions.{NodeState, Setup}
 use Rattle.protocol.specs.Calls.{World, entries_of, fresh_node, called}
 use Rattle.protocol.specs.History.{OneHistory}
 use Rattle.protocol.specs.Runs.{Lawful, Reached, at_opening, by_call, NoRunSplitsTheHistory}
@@ -13,7 +13,7 @@ module _ {V : Type 0} (setup : Setup V) (lawful : Lawful setup) where
   abbrev pub the_setting : Setting
   the_setting = setting setup lawful.values lawful.shared lawful.grows lawful.void
 
-  abbrev pub state : List (Node V) → List (Message V) → step.State V
+  abbrev pub state : List (NodeState V) → List (Message V) → step.State V
   state = state_of setup lawful.values lawful.shared lawful.grows lawful.void
 
   -- the state that a world is in, reached by steps
@@ -27,7 +27,7 @@ module _ {V : Type 0} (setup : Setup V) (lawful : Lawful setup) where
   fresh_at (v ∷ versions) zero = refl
   fresh_at (v ∷ versions) (suc n) = fresh_at versions n
 
-  fresh : (v : ℕ) → step.FreshNode {V = V} (record { «record» = (fresh_node setup v).kept; volatile = (fresh_node setup v).volatile })
+  fresh : (v : ℕ) → step.FreshNode {V = V} (fresh_node setup v)
   fresh v = record { no_term = refl; no_accepted_term = refl; no_configuration = refl; no_committed_configuration = refl; no_memory = refl }
 
   pub stepped : (world : World V) → Reached setup world → Stepped world
@@ -36,8 +36,8 @@ module _ {V : Type 0} (setup : Setup V) (lawful : Lawful setup) where
     readable = o.cleared;
     reached = step.start (record {
       nodes = λ n.
-          subst (λ (x : Node V). step.FreshNode {V = V} (record { «record» = x.kept; volatile = x.volatile }))
-          (sym (ap (λ (l : List (Node V)). get_or l n (fresh_node setup 0)) o.nodes ∙ fresh_at o.versions n))
+          subst (λ (x : NodeState V). step.FreshNode {V = V} x)
+          (sym (ap (λ (l : List (NodeState V)). get_or l n (fresh_node setup 0)) o.nodes ∙ fresh_at o.versions n))
           (fresh (get_or o.versions n 0));
       no_messages = refl;
     });

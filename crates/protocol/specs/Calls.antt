@@ -1,5 +1,5 @@
 -- What a call does to a cluster: its answer, and the world that it leaves.
-use Rattle.std.specs.Prelude.{ℕ, Bool, true, false, cond, not, ◌&&◌, List, [], ◌∷◌, ◌++◌, map, length, Some, None, Ok, Err, Option, Result, ◌==◌, nat_le, nat_lt, slice_set}
+use Rattle.std.specs.Prelude.{ℕ, Bool, false, cond, not, ◌&&◌, List, [], ◌∷◌, ◌++◌, map, length, Some, None, Ok, Err, Option, Result, ◌==◌, nat_le, nat_lt, slice_set}
 use Rattle.std.specs.List.{slice_get}
 use Rattle.quorum.specs.declared.node_set.NodeSet.{NodeSet}
 use Rattle.quorum.specs.Sets.{nobody, legal_configuration}
@@ -16,7 +16,8 @@ use Rattle.protocol.specs.declared.refusal.Refusal.TheVariants.{
   WriteUnfinished,
 }
 use Rattle.protocol.specs.Changes.{changed}
-use Rattle.protocol.specs.Decisions.{Node, Setup, Effect, decided, same_set, restarted, bootstrap_tests, bootstrap_effect, start_join_tests, start_join_effect, publish_tests, publish_effect, restart_effect, deliver_decided}
+use Rattle.protocol.specs.Decisions.{NodeState, Setup, Effect, decided, same_set, restarted, bootstrap_tests, bootstrap_effect, start_join_tests, start_join_effect, publish_tests, publish_effect, restart_effect, deliver_decided}
+use Rattle.protocol.specs.Messages.{is_for}
 use Rattle.protocol.specs.Positions.{position}
 
 -- An entry of a log: a message, or the refusal with which reading it ends (its kind is unknown, or its body against the
@@ -30,7 +31,7 @@ entries_of log = map Ok log
 
 -- A cluster's nodes, and the log that its calls are lent.
 pub record World (V : Type 0) : Type 0 where
-  pub nodes : List (Node V)
+  pub nodes : List (NodeState V)
   pub capacity : ℕ
   pub entries : List (Entry V)
 
@@ -115,12 +116,12 @@ module _ {V : Type 0} (setup : Setup V) where
     sent (Some m) = sent_unless (position (is_message m) world.entries) m
 
     -- the world with another node n, and other entries
-    abbrev pub with_node_at : ℕ → Node V → List (Entry V) → World V
+    abbrev pub with_node_at : ℕ → NodeState V → List (Entry V) → World V
     with_node_at n node entries = record { nodes = slice_set world.nodes n node; capacity = world.capacity; entries = entries }
 
     -- An effect is carried out: its message needs room, and then its write has to finish. A write that does not finish
     -- leaves the record that the store keeps, and the node restarted; the log is as it was.
-    abbrev pub written : (n : ℕ) → Node V → Fate → Option (Change V) → Effect V → Sent V → Outcome V
+    abbrev pub written : (n : ℕ) → NodeState V → Fate → Option (Change V) → Effect V → Sent V → Outcome V
     written n node fate None effect s = record {
       answer = Ok s.entry;
       world = with_node_at n (record { kept = node.kept; volatile = effect.volatile }) s.entries;
@@ -140,34 +141,27 @@ module _ {V : Type 0} (setup : Setup V) where
     abbrev pub refused : Refusal → Outcome V
     refused why = record { answer = Err why; world = world }
 
-    abbrev pub with_room : (n : ℕ) → Node V → Fate → Effect V → Option (Sent V) → Outcome V
+    abbrev pub with_room : (n : ℕ) → NodeState V → Fate → Effect V → Option (Sent V) → Outcome V
     with_room n node fate effect None = refused LogFull
     with_room n node fate effect (Some s) = written n node fate effect.change effect s
 
-    abbrev pub carried_out : (n : ℕ) → Node V → Fate → Result (Effect V) Refusal → Outcome V
+    abbrev pub carried_out : (n : ℕ) → NodeState V → Fate → Result (Effect V) Refusal → Outcome V
     carried_out n node fate (Err why) = refused why
     carried_out n node fate (Ok effect) = with_room n node fate effect (sent effect.message)
 
     -- a call on node n, if there is such a node
-    abbrev pub if_known : (n : ℕ) → Fate → (Node V → Result (Effect V) Refusal) → Option (Node V) → Outcome V
+    abbrev pub if_known : (n : ℕ) → Fate → (NodeState V → Result (Effect V) Refusal) → Option (NodeState V) → Outcome V
     if_known n fate decision None = refused UnknownNode
     if_known n fate decision (Some node) = carried_out n node fate (decision node)
 
-    abbrev pub on_node : (n : ℕ) → Fate → (Node V → Result (Effect V) Refusal) → Outcome V
+    abbrev pub on_node : (n : ℕ) → Fate → (NodeState V → Result (Effect V) Refusal) → Outcome V
     on_node n fate decision = if_known n fate decision (slice_get world.nodes n)
 
-    -- whether a message is for node n: a publication and a commit are for every node
-    abbrev pub addressed : (n : ℕ) → Message V → Bool
-    addressed n (message.Join m) = m.destination == n
-    addressed n (message.Publication m) = true
-    addressed n (message.Response m) = m.destination == n
-    addressed n (message.Commit m) = true
-
     -- what node n decides on an entry that is looked up
-    abbrev pub decided_on : (n : ℕ) → Node V → Option (Entry V) → Result (Effect V) Refusal
+    abbrev pub decided_on : (n : ℕ) → NodeState V → Option (Entry V) → Result (Effect V) Refusal
     decided_on n node None = Err NoSuchEntry
     decided_on n node (Some (Err why)) = Err why
-    decided_on n node (Some (Ok m)) = cond (addressed n m) (deliver_decided setup node n m) (Err OtherDestination)
+    decided_on n node (Some (Ok m)) = cond (is_for n m) (deliver_decided setup node n m) (Err OtherDestination)
 
     -- the node that a call is for
     abbrev pub node_called : Call V → ℕ
@@ -178,7 +172,7 @@ module _ {V : Type 0} (setup : Setup V) where
     node_called (restart n) = n
 
     -- what that node decides: first the tests of the call's input, then those of the node's state
-    abbrev pub decision : Call V → Node V → Result (Effect V) Refusal
+    abbrev pub decision : Call V → NodeState V → Result (Effect V) Refusal
     decision (bootstrap n) node = decided (bootstrap_tests setup node) (bootstrap_effect setup node)
     decision (start_join n d t) node =
         decided (record { refuses = nat_le nodes_count d; with = UnknownNode } ∷ start_join_tests setup node t) (start_join_effect setup node n d t)
@@ -196,7 +190,7 @@ module _ {V : Type 0} (setup : Setup V) where
 
   -- Fresh nodes: both terms are 0, both configurations are empty, and the value is the initial one; the version is free.
   -- The volatile values are empty, false or 0.
-  abbrev pub fresh_node : (version : ℕ) → Node V
+  abbrev pub fresh_node : (version : ℕ) → NodeState V
   fresh_node version = record {
     kept = record {
       current_term = 0;

@@ -1,16 +1,19 @@
 -- What a node decides, for each call and each message that is delivered to it: a list of tests, each with its refusal, and
 -- an effect. The first test that holds refuses; if none does, the effect follows.
-use Rattle.std.specs.Prelude.{ℕ, Bool, true, false, cond, not, ◌&&◌, ◌||◌, List, [], ◌∷◌, Some, None, Ok, Err, Option, Result, ◌==◌, nat_le, nat_lt}
+use Rattle.std.specs.Prelude.{ℕ, Bool, true, false, cond, not, ◌&&◌, ◌||◌, List, [], ◌∷◌, Some, None, Ok, Err, Result, ◌==◌, nat_le, nat_lt}
 use Rattle.quorum.specs.declared.node_set.NodeSet.{NodeSet}
 use Rattle.quorum.specs.Sets.{nobody, with_node}
-use Rattle.protocol.specs.declared.change.Change.{Change}
 use Rattle.protocol.specs.declared.change.Change.TheVariants as change
+-- what a node does where nothing refuses: its change, its next volatile values, and its message
+pub use Rattle.protocol.specs.declared.effect.Effect.{Effect}
 use Rattle.protocol.specs.declared.message.Join.{Join}
 use Rattle.protocol.specs.declared.message.Publication.{Publication}
 use Rattle.protocol.specs.declared.message.Response.{Response}
 use Rattle.protocol.specs.declared.message.Commit.{Commit}
 use Rattle.protocol.specs.declared.message.Message.{Message}
 use Rattle.protocol.specs.declared.message.Message.TheVariants as message
+-- a node: what it keeps in its store, and what it forgets at a restart
+pub use Rattle.protocol.specs.declared.node_state.NodeState.{NodeState}
 use Rattle.protocol.specs.declared.record.Record.{Record}
 use Rattle.protocol.specs.declared.refusal.Refusal.{Refusal}
 use Rattle.protocol.specs.declared.refusal.Refusal.TheVariants.{
@@ -33,24 +36,12 @@ use Rattle.protocol.specs.declared.refusal.Refusal.TheVariants.{
 }
 use Rattle.protocol.specs.declared.volatile.Volatile.{Volatile}
 
--- A node: what it keeps in its store, and what it forgets at a restart.
-pub record Node (V : Type 0) : Type 0 where
-  pub kept : Record V
-  pub volatile : Volatile
-
 -- What is fixed when a cluster is opened: the voting rule, when two values are the same, and what its nodes start from.
 pub record Setup (V : Type 0) : Type 0 where
   pub quorum : NodeSet → NodeSet → Bool
   pub same_value : V → V → Bool
   pub initial_configuration : NodeSet
   pub initial_value : V
-
--- What a node does where nothing refuses: what it writes, if anything, its next volatile values, and the message that
--- it sends, if any.
-pub record Effect (V : Type 0) : Type 0 where
-  pub change : Option (Change V)
-  pub volatile : Volatile
-  pub message : Option (Message V)
 
 -- a test that refuses where it holds
 pub record Test : Type 0 where
@@ -64,8 +55,7 @@ checked (test ∷ tests) next = cond test.refuses (Err test.with) (checked tests
 
 -- the first test that holds refuses; if none does, the effect follows
 abbrev pub decided : {X : Type 0} → List Test → X → Result X Refusal
-decided [] effect = Ok effect
-decided (test ∷ tests) effect = cond test.refuses (Err test.with) (decided tests effect)
+decided tests effect = checked tests (Ok effect)
 
 -- sets of nodes
 abbrev pub is_empty : NodeSet → Bool
@@ -85,7 +75,7 @@ restarted kept = record {
   publish_votes = nobody;
 }
 
-module _ {V : Type 0} (setup : Setup V) (node : Node V) where
+module _ {V : Type 0} (setup : Setup V) (node : NodeState V) where
   -- the node's record and volatile values, under short names
   abbrev r : Record V
   r = node.kept

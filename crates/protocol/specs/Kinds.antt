@@ -1,6 +1,7 @@
 -- The number of each kind of message.
-use Rattle.std.specs.Prelude.{ℕ, cond, Some, None, Option, ◌==◌}
+use Rattle.std.specs.Prelude.{ℕ, cond, Some, None, Ok, Err, Option, Result, ◌==◌}
 use Rattle.protocol.specs.declared.kind.Kind.{Kind}
+use Rattle.protocol.specs.declared.kind.UnknownKind.{UnknownKind}
 use Rattle.protocol.specs.declared.kind.Kind.TheVariants.{Join, Publication, Response, Commit}
 
 abbrev pub kind_number : Kind → ℕ
@@ -16,3 +17,7 @@ kind_of_number n =
     (cond (n == kind_number Publication) (Some Publication)
     (cond (n == kind_number Response) (Some Response)
     (cond (n == kind_number Commit) (Some Commit) None)))
+
+-- the same, where a number that no kind has is an error that names it
+abbrev pub kind_with_number : ℕ → Result Kind UnknownKind
+kind_with_number n = elim (kind_of_number n) [ Some kind ↦ Ok kind | None ↦ Err (record { number = n }) ]

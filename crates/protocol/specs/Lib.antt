@@ -11,8 +11,6 @@ pub mod Bytes
 pub mod Changes
 -- what a node decides: the tests of each call and message, with their refusals, and its effect
 pub mod Decisions
--- what the code's node, effect and decision are in the words of the definitions
-pub mod Meanings
 -- the place of an element in a list
 pub mod Positions
 -- what a call does to a cluster

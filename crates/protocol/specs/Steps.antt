@@ -12,7 +12,7 @@ use Rattle.protocol.specs.declared.message.Message.{Message}
 use Rattle.protocol.specs.declared.message.Message.TheVariants as message
 use Rattle.protocol.specs.declared.refusal.Refusal.TheVariants.{WriteUnfinished}
 use Rattle.protocol.specs.Decisions.{
-  Node,
+  NodeState,
   Setup,
   Effect,
   bootstrap_effect,
@@ -101,12 +101,12 @@ pub record Tied {V : Type 0} (log : List (Message V)) (descendant : List model.D
 
 module _ {V : Type 0} (setup : Setup V) where
   -- what stands where no node is
-  abbrev pub blank : Node V
+  abbrev pub blank : NodeState V
   blank = fresh_node setup 0
 
   -- The state of the model that N nodes and a log denote; the accepted versions at the opening and the set descendant are no
   -- part of ours, and given.
-  abbrev pub state : (versions : ℕ → ℕ) (descendant : List model.Descendant) (N : ℕ) → List (Node V) → List (Entry V) → State V
+  abbrev pub state : (versions : ℕ → ℕ) (descendant : List model.Descendant) (N : ℕ) → List (NodeState V) → List (Entry V) → State V
   state versions descendant N nodes entries = record {
     messages = all_meant N entries;
     descendant = descendant;

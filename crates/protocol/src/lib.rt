@@ -14,7 +14,7 @@ mod volatile;
 
 pub use change::{Accepted, Change};
 pub use effect::Effect;
-pub use kind::Kind;
+pub use kind::{Kind, UnknownKind};
 pub use message::{Commit, EVERYONE, Join, Message, Publication, Response, Term, Value, Version};
 pub use node_state::NodeState;
 pub use record::Record;

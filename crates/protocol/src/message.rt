@@ -13,7 +13,7 @@ pub type Version = u32;
 
 pub type Value = u32;
 
-/// The destination of a message that is for every node.
+/// The destination of a message that is for every node: a number, since it is a byte of a log.
 pub const EVERYONE: u8 = 255;
 
 /// `source` votes for `destination` in `term`. The base is what `source` has accepted last.

@@ -3,7 +3,7 @@ use crate::message::{Term, Value, Version};
 use quorum::NodeSet;
 
 /// The numbers that a node keeps in its store, over restarts and power cuts.
-#[derive(Clone, Copy, PartialEq, Eq, Debug)]
+#[derive(Clone, Copy, Default, PartialEq, Eq, Debug)]
 pub struct Record<V = Value> {
     pub current_term: Term,
     pub last_accepted_term: Term,

@@ -1,78 +1,62 @@
 //! Why a call is refused.
-ghost use Rattle.std.specs.Prelude.{◌≡◌};
+ghost use Rattle.std.specs.Prelude.{◌≡◌, Some, decimal};
 ghost use Rattle.protocol.specs.Refusals.{refusal_number};
 
-/// The reasons, in the order of their numbers.
+use std::error::Error;
+use std::fmt;
+
+/// The reasons, each with the number by which it is known.
 #[derive(Clone, Copy, PartialEq, Eq, Debug)]
 pub enum Refusal {
-    UnknownNode,
-    IllFormedLog,
-    NoSuchEntry,
-    UnknownKind,
-    InvalidBody,
-    OtherDestination,
-    IllegalConfiguration,
-    UnsoundStore,
-    TooManyStores,
-    IllegalInitialConfiguration,
-    StoreNotFresh,
-    ClusterShut,
-    AlreadyBootstrapped,
-    TermNotHigher,
-    OtherTerm,
-    JoinNotStarted,
-    JoinerAhead,
-    NotBootstrapped,
-    ElectionNotWon,
-    PublicationUnderWay,
-    VersionNotHigher,
-    ReconfigurationUnderWay,
-    NoJoinQuorum,
-    AlreadyAccepted,
-    OtherVersion,
-    OtherAcceptedTerm,
-    OtherAcceptedVersion,
-    NewerPublished,
-    LogFull,
-    WriteUnfinished,
+    UnknownNode = 1,
+    IllFormedLog = 2,
+    NoSuchEntry = 3,
+    UnknownKind = 4,
+    InvalidBody = 5,
+    OtherDestination = 6,
+    IllegalConfiguration = 7,
+    UnsoundStore = 8,
+    TooManyStores = 9,
+    IllegalInitialConfiguration = 10,
+    StoreNotFresh = 11,
+    ClusterShut = 20,
+    AlreadyBootstrapped = 21,
+    TermNotHigher = 22,
+    OtherTerm = 23,
+    JoinNotStarted = 24,
+    JoinerAhead = 25,
+    NotBootstrapped = 26,
+    ElectionNotWon = 27,
+    PublicationUnderWay = 28,
+    VersionNotHigher = 29,
+    ReconfigurationUnderWay = 30,
+    NoJoinQuorum = 31,
+    AlreadyAccepted = 32,
+    OtherVersion = 33,
+    OtherAcceptedTerm = 34,
+    OtherAcceptedVersion = 35,
+    NewerPublished = 36,
+    LogFull = 37,
+    WriteUnfinished = 38,
 }
 
-impl Refusal {
-    /// The number by which the refusal is known.
-    pub fn number(self) -> u8
-        ensures { result ≡ refusal_number self }
-    {
-        match self {
-            Refusal::UnknownNode => 1,
-            Refusal::IllFormedLog => 2,
-            Refusal::NoSuchEntry => 3,
-            Refusal::UnknownKind => 4,
-            Refusal::InvalidBody => 5,
-            Refusal::OtherDestination => 6,
-            Refusal::IllegalConfiguration => 7,
-            Refusal::UnsoundStore => 8,
-            Refusal::TooManyStores => 9,
-            Refusal::IllegalInitialConfiguration => 10,
-            Refusal::StoreNotFresh => 11,
-            Refusal::ClusterShut => 20,
-            Refusal::AlreadyBootstrapped => 21,
-            Refusal::TermNotHigher => 22,
-            Refusal::OtherTerm => 23,
-            Refusal::JoinNotStarted => 24,
-            Refusal::JoinerAhead => 25,
-            Refusal::NotBootstrapped => 26,
-            Refusal::ElectionNotWon => 27,
-            Refusal::PublicationUnderWay => 28,
-            Refusal::VersionNotHigher => 29,
-            Refusal::ReconfigurationUnderWay => 30,
-            Refusal::NoJoinQuorum => 31,
-            Refusal::AlreadyAccepted => 32,
-            Refusal::OtherVersion => 33,
-            Refusal::OtherAcceptedTerm => 34,
-            Refusal::OtherAcceptedVersion => 35,
-            Refusal::NewerPublished => 36,
-            Refusal::LogFull => 37,
-            Refusal::WriteUnfinished => 38,
-        }
+/// The number by which a refusal is known.
+impl From<Refusal> for u8 {
+    ghost from_gives = { λ refusal number. number ≡ refusal_number refusal };
+
+    fn from(refusal: Refusal) -> u8 {
+        refusal as u8
     }
 }
+
+/// A refusal is shown by its number.
+impl fmt::Display for Refusal {
+    ghost output = { λ refusal. Some (decimal (refusal_number refusal)) };
+
+    fn fmt<W: fmt::Write>(&self, f: &mut fmt::Formatter<W>) -> fmt::Result {
+        let number = u8::from(*self);
+        write!(f, "{number}")
+    }
+}
+
+impl Error for Refusal {}

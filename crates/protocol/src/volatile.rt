@@ -3,7 +3,7 @@ use crate::message::Version;
 use quorum::NodeSet;
 
 /// The values that a node keeps in memory only.
-#[derive(Clone, Copy, PartialEq, Eq, Debug)]
+#[derive(Clone, Copy, Default, PartialEq, Eq, Debug)]
 pub struct Volatile {
     /// The nodes whose joins were counted in this term.
     pub join_votes: NodeSet,

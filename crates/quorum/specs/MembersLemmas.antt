@@ -21,6 +21,9 @@ member-common k a b =
     let d : bit_and a.bits b.bits / 2 ^ k % 2 ≡ min (a.bits / 2 ^ k % 2) (b.bits / 2 ^ k % 2) = rw (and_shr, and_odd) in
     grind (arith, nat_tests)
 
+-- for the proof of `intersection`
+pub ruleset common_members = (member-common)
+
 -- a set below 2 ^ n has no member from n on
 pub none_from : (n k : ℕ) (s : NodeSet) → s.bits < 2 ^ n → n ≤ k → member k s ≡ false
 unfolding member

@@ -3,7 +3,7 @@ use Rattle.std.specs.Prelude.{◌≡◌, ℕ, zero, suc, ◌+◌, ◌/◌, ◌%�
 use Rattle.std.proofs.Common.{inl, inr, ⊎_elim, sym, ap, ◌∙◌, mod-eq_of_lt, add-one, one-add, arith}
 use Rattle.std.proofs.Math.Nat.{mod-one}
 use Rattle.std.specs.Int.Count.{ones, ones_in}
-use Rattle.std.proofs.lemmas.Nat.{mod-pow-add, mod_below, pow_pos, ones_cat}
+use Rattle.std.proofs.lemmas.Nat.{mod-pow-add, mod_below, pow_pos, ones_cat, ones-le}
 use Rattle.std.proofs.lemmas.Bool.{and_parts, cases_Bool, cases_eq}
 use Rattle.std.proofs.lemmas.Bool.Decides.{nat_tests}
 use Rattle.quorum.specs.declared.node_set.NodeSet.{NodeSet}
@@ -73,3 +73,11 @@ ones_each (suc k) s =
 -- where every node counts for one, the weight is the number of bits that are set
 pub count_bits : (k : ℕ) (s : NodeSet) → s.bits < 2 ^ k → ones s.bits ≡ weight_below k one_each s
 count_bits k s h = rw (ones_each k s, mod-eq_of_lt h)
+
+-- how many bits a set of 16 nodes has set is its weight where each node weighs one, ..
+pub counted : (s : NodeSet) → s.bits < 2 ^ 16 → ones s.bits ≡ weight_below 16 one_each s
+counted s small = count_bits 16 s small
+
+-- .. and 16 at most
+pub counted_at_most : (s : NodeSet) → s.bits < 2 ^ 16 → ones s.bits ≤ 16
+counted_at_most s small = ones-le 16 s.bits small

@@ -8,10 +8,12 @@ mod rule;
 #[cfg(test)]
 mod tests;
 mod weighted;
+mod weights;
 mod worked_cases;
 
 pub use majority::Majority;
 pub use node_set::{MAX_NODES, NodeSet};
 pub use rule::VotingRule;
 pub use weighted::Weighted;
+pub use weights::Weights;
 pub use worked_cases::heavy_node_decides;

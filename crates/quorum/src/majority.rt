@@ -1,35 +1,21 @@
 //! The majority rule.
-ghost use Rattle.std.specs.Prelude.{◌≡◌, ◌≤◌};
-ghost use Rattle.quorum.specs.Rules.{majority, weight_of, one_each};
+ghost use Rattle.quorum.specs.Rules.{one_each};
 ghost use Rattle.quorum.specs.Measure;
 
 use crate::node_set::NodeSet;
-use crate::rule::VotingRule;
+use crate::weights::Weights;
 
-/// Twice the votes inside the configuration exceed its size.
+/// Every node weighs one: twice the votes inside the configuration exceed its size.
 #[derive(Clone, Copy, Debug)]
 pub struct Majority;
 
-impl VotingRule for Majority {
-    ghost quorum = { λ _. majority };
+impl Weights for Majority {
+    ghost weight = { λ _. one_each };
 
-    ghost shared = { λ rule. Measure.shared one_each };
+    ghost positive = { λ _. Measure.one_each_positive };
 
-    ghost grows = { λ rule. Measure.grows one_each };
-
-    ghost whole = { λ rule. Measure.whole one_each Measure.one_each_positive };
-
-    ghost void = { λ rule. Measure.void one_each };
-
-    fn is_quorum(&self, votes: NodeSet, configuration: NodeSet) -> bool {
-        2 * size(votes.intersection(configuration)) > size(configuration)
+    #[tactic(auto, using(crate::specs::WeightsLemmas::counted, crate::specs::WeightsLemmas::counted_at_most))]
+    fn weigh(&self, set: NodeSet) -> u16 {
+        set.bits().count_ones() as u16
     }
-}
-
-// How many nodes the set has.
-fn size(set: NodeSet) -> u32
-    ensures value { result ≡ weight_of one_each set }
-    ensures bound { result ≤ 16 }
-{
-    set.bits().count_ones()
 }

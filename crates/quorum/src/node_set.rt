@@ -1,5 +1,5 @@
 //! A set of nodes, one bit for each.
-ghost use Rattle.std.specs.Prelude.{◌≡◌, ℕ, ◌/◌, ◌^◌, ◌&&◌, ◌||◌, Decides, ◌==◌, bit_and, nat_lt};
+ghost use Rattle.std.specs.Prelude.{◌≡◌, ℕ, ◌/◌, ◌^◌, ◌&&◌, ◌||◌, Decides, ◌==◌, nat_lt};
 ghost use Rattle.quorum.specs.Sets.{member, nobody, with_node, common, legal_configuration, Configuration};
 
 use std::fmt;
@@ -8,7 +8,7 @@ use std::fmt;
 pub const MAX_NODES: u8 = 16;
 
 /// A set of nodes: bit `n` of `bits` says whether node `n` is in it.
-#[derive(Clone, Copy, PartialEq, Eq, Debug)]
+#[derive(Clone, Copy, Default, PartialEq, Eq, Debug)]
 pub struct NodeSet {
     bits: u16,
 }
@@ -22,6 +22,7 @@ impl NodeSet {
     }
 
     /// The set whose bits these are.
+    // Named as the library's `f32::from_bits`: `NodeSet::from(7)` would not say what the 7 is.
     pub fn from_bits(bits: u16) -> NodeSet
         ensures { result.bits ≡ bits }
     {
@@ -36,6 +37,7 @@ impl NodeSet {
     }
 
     /// Whether the node is in the set.
+    #[tactic(auto, unfolding(crate::specs::Sets::member))]
     pub fn contains(self, node: u8) -> bool
         ensures { result ≡ member node self }
     {
@@ -57,12 +59,13 @@ impl NodeSet {
     }
 
     /// The nodes that are in both sets.
+    #[tactic(auto, using(crate::specs::MembersLemmas::common_members))]
     pub fn intersection(self, other: NodeSet) -> NodeSet
         ensures value { result ≡ common self other }
         ensures members { (k : ℕ) → member k result ≡ (member k self && member k other) }
     {
         NodeSet {
-            bits: in_both(self.bits, other.bits),
+            bits: self.bits & other.bits,
         }
     }
 
@@ -96,15 +99,12 @@ impl fmt::Display for NodeSet {
         if self.is_empty() {
             return f.write_str("-");
         }
-        let mut first = true;
-        for node in 0..MAX_NODES {
-            if self.contains(node) {
-                if !first {
-                    f.write_str(",")?;
-                }
-                first = false;
-                write!(f, "{node}")?;
+        let nodes = (0..MAX_NODES).filter(|&node| self.contains(node));
+        for (place, node) in nodes.enumerate() {
+            if place > 0 {
+                f.write_str(",")?;
             }
+            write!(f, "{node}")?;
         }
         Ok(())
     }
@@ -115,11 +115,4 @@ fn is_node(node: u8) -> bool
     ensures { result ≡ nat_lt node 16 }
 {
     node < MAX_NODES
-}
-
-// The bits that are set in both numbers.
-fn in_both(a: u16, b: u16) -> u16
-    ensures { result ≡ bit_and a b }
-{
-    a & b
 }

@@ -19,6 +19,11 @@ fn a_configuration_has_known_nodes_only(rt: HostRuntime) {
 }
 
 #[test]
+fn the_default_is_the_empty_set(rt: HostRuntime) {
+    assert_eq!(rt; NodeSet::default(), NodeSet::empty());
+}
+
+#[test]
 fn a_majority_is_more_than_half(rt: HostRuntime) {
     let rule = Majority;
     // A configuration, and the fewest of its nodes that are a majority; half of their bits is one node fewer.

@@ -1,10 +1,10 @@
 //! The weighted rule.
-ghost use Rattle.std.specs.Prelude.{◌≡◌, ◌≤◌};
-ghost use Rattle.quorum.specs.Rules.{weighted, weight_of, by_table, taken_as};
+ghost use Rattle.std.specs.Prelude.{◌≡◌};
+ghost use Rattle.quorum.specs.Rules.{by_table, taken_as};
 ghost use Rattle.quorum.specs.Measure;
 
 use crate::node_set::{MAX_NODES, NodeSet};
-use crate::rule::VotingRule;
+use crate::weights::Weights;
 
 /// The lowest weight of a node.
 const MIN_WEIGHT: u8 = 1;
@@ -12,8 +12,7 @@ const MIN_WEIGHT: u8 = 1;
 /// The highest weight of a node.
 const MAX_WEIGHT: u8 = 15;
 
-/// Twice the weight of the votes inside the configuration exceeds its weight. Node `n` weighs
-/// `weights[n]`, where 0 is taken as 1 and more than 15 as 15.
+/// Node `n` weighs `weights[n]`, where 0 is taken as 1 and more than 15 as 15.
 #[derive(Clone, Copy, Debug)]
 pub struct Weighted {
     weights: [u8; 16],
@@ -26,35 +25,21 @@ impl Weighted {
     {
         Weighted { weights }
     }
+}
 
-    // The weight of a set.
-    fn weight(&self, set: NodeSet) -> u16
-        ensures value { result ≡ weight_of (by_table self.now.weights) set }
-        ensures bound { result ≤ 240 }
-    {
+impl Weights for Weighted {
+    ghost weight = { λ rule. by_table rule.weights };
+
+    ghost positive = { λ rule. Measure.by_table_positive rule.weights };
+
+    fn weigh(&self, set: NodeSet) -> u16 {
         let mut total = 0;
-        for node in 0..MAX_NODES {
+        for (node, &weight) in (0..MAX_NODES).zip(&self.weights) {
             if set.contains(node) {
-                total += u16::from(taken_as(self.weights[usize::from(node)]));
+                total += u16::from(taken_as(weight));
             }
         }
         total
-    }
-}
-
-impl VotingRule for Weighted {
-    ghost quorum = { λ rule. weighted rule.weights };
-
-    ghost shared = { λ rule. Measure.shared (by_table rule.weights) };
-
-    ghost grows = { λ rule. Measure.grows (by_table rule.weights) };
-
-    ghost whole = { λ rule. Measure.whole (by_table rule.weights) (Measure.by_table_positive rule.weights) };
-
-    ghost void = { λ rule. Measure.void (by_table rule.weights) };
-
-    fn is_quorum(&self, votes: NodeSet, configuration: NodeSet) -> bool {
-        2 * self.weight(votes.intersection(configuration)) > self.weight(configuration)
     }
 }
 

@@ -1,13 +1,13 @@
 -- A write to a ring, finished or cut, leaves the old record or the new one, whole.
 -- The number of slots is a variable throughout.
-use Rattle.std.proofs.Common.{◌≡◌, ℕ, ◌+◌, ◌-◌, ◌*◌, ◌<◌, ◌≤◌, Bool, true, false, cond, not, ◌&&◌, ◌||◌, eqb, ltb, leb, ◌≢◌, ◌⊎◌, List, length, get_or, take, set, is_some, Some, None, Option, sym, refl, ap, ◌∙◌, inl, inr, arith}
+use Rattle.std.proofs.Common.{◌≡◌, ℕ, ◌+◌, ◌-◌, ◌*◌, ◌<◌, ◌≤◌, Bool, true, false, cond, ◌&&◌, ◌||◌, leb, ◌≢◌, ◌⊎◌, List, length, get_or, take, set, Some, None, Option, sym, refl, ap, ◌∙◌, inl, inr, arith}
 use Rattle.std.proofs.lemmas.List.{length-set, get_or-set_same, get_or-set_other, drop-set-lt}
-use Rattle.std.proofs.lemmas.Bool.{leb-true, eqb-true, ltb-true, ltb-false, and_parts, and_from, le-leb, lt-ltb, eq-eqb, lt-leb, cond-true, cond-false, cases_lt, cases_order}
+use Rattle.std.proofs.lemmas.Bool.{le-leb, cond-true, cond-false, cases_order}
 use Rattle.std.proofs.lemmas.Bool.Decides.{nat_tests}
 use Rattle.protocol.specs.declared.record.Record.{Record}
 use Rattle.protocol.specs.Changes.{changed}
 use Rattle.store.specs.Overwriting.{part, spent, overwritten_at}
-use Rattle.store.specs.Ring.{header_size, least_slots, most_slots, ring_size, slots_of, current_of, well_formed, term_place, state_place, record_in, ring, number_lands, next_slot, filled, turned, after_change}
+use Rattle.store.specs.Ring.{header_size, least_slots, most_slots, ring_size, slots_of, current_of, well_formed, term_place, state_place, record_in, ring, number_lands, next_slot, left_for_number, filled, turned, after_change}
 use Rattle.store.specs.Slots.{term_size, state_size, record_of, term_bytes, state_bytes, ReadsBack}
 use Rattle.store.specs.Stores.{Meaning, zeros, finishes, after_write, Written, last_lands, by_last_write}
 use Rattle.protocol.specs.declared.change.Change.{Change}
@@ -23,31 +23,27 @@ pub record Form (bytes : List ℕ) : Type 0 where
   pub long : length bytes ≡ header_size + (term_size + state_size) * slots_of bytes
 
 pub form : (bytes : List ℕ) → well_formed bytes ≡ true → Form bytes
-form bytes h =
-    let a = and_parts (leb least_slots (slots_of bytes)) _ h in
-    let b = and_parts (leb (slots_of bytes) most_slots) _ a.1 in
-    let c = and_parts (eqb (get_or bytes 1 0) state_size) _ b.1 in
-    let d = and_parts (ltb (current_of bytes) (slots_of bytes)) _ c.1 in
-    record {
-      least = leb-true _ _ a.0;
-      most = leb-true _ _ b.0;
-      width = eqb-true _ _ c.0;
-      current = ltb-true _ _ d.0;
-      long = eqb-true _ _ d.1;
-    }
+form bytes h = record {
+  least = grind (arith, nat_tests);
+  most = grind (arith, nat_tests);
+  width = grind (arith, nat_tests);
+  current = grind (arith, nat_tests);
+  long = grind (arith, nat_tests);
+}
 
 pub formed : (bytes : List ℕ) → Form bytes → well_formed bytes ≡ true
 formed bytes f =
-    and_from (leb least_slots (slots_of bytes)) _ (le-leb _ _ f.least) (and_from (leb (slots_of bytes) most_slots) _ (le-leb _ _ f.most)
-    (and_from (eqb (get_or bytes 1 0) state_size) _ (eq-eqb _ _ f.width) (and_from (ltb (current_of bytes) (slots_of bytes)) _ (lt-ltb _ _ f.current) (eq-eqb _ _ f.long))))
+    let a : least_slots ≤ slots_of bytes = f.least in
+    let b : slots_of bytes ≤ most_slots = f.most in
+    let c : get_or bytes 1 0 ≡ state_size = f.width in
+    let d : current_of bytes < slots_of bytes = f.current in
+    let e : length bytes ≡ header_size + (term_size + state_size) * slots_of bytes = f.long in
+    grind (arith, nat_tests)
 
 -- the record that two parts of the bytes make
 record_from : (bytes : List ℕ) (slots slot : ℕ) (term state : List ℕ) → slots_of bytes ≡ slots → part (term_place slot) term_size bytes ≡ term
     → part (state_place slots slot) state_size bytes ≡ state → record_in slot bytes ≡ record_of term state
-record_from bytes slots slot term state k t s =
-    ap (λ (n : ℕ). record_of (part (term_place slot) term_size bytes) (part (state_place n slot) state_size bytes)) k
-    ∙ ap (λ (xs : List ℕ). record_of xs (part (state_place slots slot) state_size bytes)) t
-    ∙ ap (record_of term) s
+record_from bytes slots slot term state k t s = cc
 
 -- What filling a slot leaves: the header, the length, and the record of every other slot; and with enough
 -- power the slot holds the record.
@@ -102,35 +98,12 @@ module _ (bytes : List ℕ) (f : Form bytes) (slot : ℕ) (inside : slot < slots
 
 -- The power that is left for the slot number.
 module _ (power : Power) where
-  left_some : term_size + state_size ≤ power.budget → spent state_size (spent term_size (Some power)) ≡ Some (record { budget = power.budget - term_size - state_size; residue = power.residue })
-  left_some h =
-      let rest : Power = record { budget = power.budget - term_size; residue = power.residue } in
-      ap (spent state_size) (cond-true (leb term_size power.budget) (Some rest) None (le-leb _ _ (omega arith)))
-      ∙ cond-true (leb state_size rest.budget) (Some (record { budget = rest.budget - state_size; residue = power.residue })) None (le-leb _ _ (omega arith))
-
-  left_none : power.budget < term_size + state_size → spent state_size (spent term_size (Some power)) ≡ None
-  left_none h = go (leb term_size power.budget) refl where
-    go : (b : Bool) → leb term_size power.budget ≡ b → spent state_size (spent term_size (Some power)) ≡ None
-    go true t = ap (spent state_size) (cond-true (leb term_size power.budget) (Some (record { budget = power.budget - term_size; residue = power.residue })) None t)
-        ∙ cond-false (leb state_size (power.budget - term_size)) (Some (record { budget = power.budget - term_size - state_size; residue = power.residue })) None (lt-leb _ _ (omega (arith, leb-true _ _ t)))
-    go false t = ap (spent state_size) (cond-false (leb term_size power.budget) (Some (record { budget = power.budget - term_size; residue = power.residue })) None t)
-
   -- the slot number lands where the write finishes, and where its last byte write is the one that is caught, with an odd residue
-  pub lands : number_lands (spent state_size (spent term_size (Some power))) ≡ (leb ring_size power.budget || last_lands ring_size power)
-  lands = go (cases_lt power.budget (term_size + state_size)) where
-    go : (power.budget < term_size + state_size) ⊎ (term_size + state_size ≤ power.budget) → number_lands (spent state_size (spent term_size (Some power))) ≡ (leb ring_size power.budget || last_lands ring_size power)
-    go (inl h) = ap number_lands (left_none h) ∙ grind (arith, nat_tests)
-    go (inr h) = ap number_lands (left_some h) ∙ grind (arith, nat_tests)
+  pub lands : number_lands (left_for_number power) ≡ (leb ring_size power.budget || last_lands ring_size power)
+  lands = grind (arith, nat_tests)
 
-  pub lands_enough : number_lands (spent state_size (spent term_size (Some power))) ≡ true → term_size + state_size ≤ power.budget
+  pub lands_enough : number_lands (left_for_number power) ≡ true → term_size + state_size ≤ power.budget
   lands_enough h = grind (arith, nat_tests, lands)
-
-  -- the write finishes where the budget reaches the write size
-  pub finished_is : is_some (spent 1 (spent state_size (spent term_size (Some power)))) ≡ leb ring_size power.budget
-  finished_is = go (cases_lt power.budget (term_size + state_size)) where
-    go : (power.budget < term_size + state_size) ⊎ (term_size + state_size ≤ power.budget) → is_some (spent 1 (spent state_size (spent term_size (Some power)))) ≡ leb ring_size power.budget
-    go (inl h) = ap (λ (o : Option Power). is_some (spent 1 o)) (left_none h) ∙ grind (arith, nat_tests)
-    go (inr h) = ap (λ (o : Option Power). is_some (spent 1 o)) (left_some h) ∙ grind (arith, nat_tests)
 
 -- What a write leaves, of any store: an unsound one as it was, a sound one with the new record or the old.
 pub unsound_stays : (store : Meaning) (change : Change ℕ) (power : Power) (keeps_new : Bool) → store.sound ≡ false → after_write store change power keeps_new ≡ store
@@ -145,19 +118,7 @@ sound_holds : (store : Meaning) (change : Change ℕ) (power : Power) (keeps_new
   sound = true;
   may_keep = store.may_keep;
 }
-sound_holds store change power keeps_new e = ap (λ (b : Bool). record {
-  content = cond ((b && leb store.size power.budget) || (b && keeps_new)) (changed change store.content) store.content;
-  size = store.size;
-  sound = b;
-  may_keep = store.may_keep;
-}) e
-
--- what our own stores allow is what they do
-pub pinned : (size : ℕ) (change : Change ℕ) (power : Power) → by_last_write size change power (last_lands size power) ≡ true
-pinned size change power = go (last_lands size power) refl where
-  go : (b : Bool) → last_lands size power ≡ b → by_last_write size change power b ≡ true
-  go true e = e
-  go false e = ap not e
+sound_holds store change power keeps_new e = cc
 
 -- a ring that has the form and holds this record
 ring_holds : (bytes : List ℕ) (content : Record ℕ) → well_formed bytes ≡ true → record_in (current_of bytes) bytes ≡ content → ring bytes ≡ record {
@@ -166,19 +127,14 @@ ring_holds : (bytes : List ℕ) (content : Record ℕ) → well_formed bytes ≡
   sound = true;
   may_keep = by_last_write ring_size;
 }
-ring_holds bytes content h e =
-    ap (λ (b : Bool). record { content = cond b (record_in (current_of bytes) bytes) zeros; size = ring_size; sound = b; may_keep = by_last_write ring_size }) h
-    ∙ ap (λ (r : Record ℕ). record { content = r; size = ring_size; sound = true; may_keep = by_last_write ring_size }) e
+ring_holds bytes content h e = cc
 
 -- the next slot is one of the slots, and another one
 next_inside : (slots slot : ℕ) → least_slots ≤ slots → next_slot slots slot < slots
 next_inside slots slot least = grind (arith, nat_tests)
 
 next_differs : (slots slot : ℕ) → least_slots ≤ slots → slot < slots → slot ≢ next_slot slots slot
-next_differs slots slot least h = go (ltb (slot + 1) slots) refl where
-  go : (b : Bool) → ltb (slot + 1) slots ≡ b → slot ≢ next_slot slots slot
-  go true t = λ e. absurd (omega (arith, e ∙ cond-true (ltb (slot + 1) slots) (slot + 1) 0 t))
-  go false t = λ e. absurd (omega (arith, e ∙ cond-false (ltb (slot + 1) slots) (slot + 1) 0 t, ltb-false (slot + 1) slots t))
+next_differs slots slot least h = λ e. absurd (grind (arith, nat_tests))
 
 -- Bytes with the header and the length of a ring have its form, and so they have with another current slot.
 module _ (bytes full : List ℕ) (f : Form bytes) (long : length full ≡ length bytes) (head : (i : ℕ) → i < header_size → get_or full i 0 ≡ get_or bytes i 0) where
@@ -229,12 +185,12 @@ sound_after bytes change power h back =
     let old : Record ℕ = (ring bytes).content in
     let new : Record ℕ = changed change old in
     let full : List ℕ = filled slot new power bytes in
-    let number : Bool = number_lands (spent state_size (spent term_size (Some power))) in
+    let number : Bool = number_lands (left_for_number power) in
     let is_old : record_in (current_of bytes) full ≡ old =
     others_filled bytes f slot inside new power (current_of bytes) f.current (next_differs (slots_of bytes) (current_of bytes) f.least f.current)
     ∙ sym (cond-true (well_formed bytes) (record_in (current_of bytes) bytes) zeros h) in
     let is_new : number ≡ true → record_in slot full ≡ new = λ t. slot_filled bytes f slot inside new power (lands_enough power t) back in
-    ap ring (cond-true (well_formed bytes) (turned slot (spent state_size (spent term_size (Some power))) full) bytes h)
+    ap ring (cond-true (well_formed bytes) (turned slot (left_for_number power) full) bytes h)
     ∙ turned_holds bytes full f (length-filled bytes f slot inside new power) (header_filled bytes f slot inside new power) slot inside number new old is_new is_old
     ∙ ap (λ (b : Bool). record { content = cond b new old; size = ring_size; sound = true; may_keep = by_last_write ring_size }) (lands power)
     ∙ sym (sound_holds (ring bytes) change power (last_lands ring_size power) h)
@@ -247,10 +203,10 @@ pub never_torn : (bytes after : List ℕ) (change : Change ℕ) (power : Power) 
 never_torn bytes after change power finished made answered back = record {
   answer = answered;
   keeps_new = last_lands ring_size power;
-  allowed = pinned ring_size change power;
+  allowed = grind (arith, nat_tests);
   same = ap ring made ∙ go (well_formed bytes) refl;
 } where
   go : (b : Bool) → well_formed bytes ≡ b → ring (after_change change power bytes) ≡ after_write (ring bytes) change power (last_lands ring_size power)
   go true h = sound_after bytes change power h (back h)
-  go false h = ap ring (cond-false (well_formed bytes) (turned (next_slot (slots_of bytes) (current_of bytes)) (spent state_size (spent term_size (Some power))) (filled (next_slot (slots_of bytes) (current_of bytes)) (changed change (ring bytes).content) power bytes)) bytes h)
+  go false h = ap ring (cond-false (well_formed bytes) (turned (next_slot (slots_of bytes) (current_of bytes)) (left_for_number power) (filled (next_slot (slots_of bytes) (current_of bytes)) (changed change (ring bytes).content) power bytes)) bytes h)
       ∙ sym (unsound_stays (ring bytes) change power (last_lands ring_size power) h)

@@ -1,29 +1,9 @@
 -- Bytes that are overwritten one by one, and parts of the bytes.
-use Rattle.std.proofs.Common.{◌≡◌, ℕ, ◌+◌, ◌-◌, ◌<◌, ◌≤◌, true, false, cond, ltb, ◌⊎◌, List, [], ◌∷◌, ◌++◌, length, get_or, take, drop, set, Some, None, Option, sym, refl, ap, ◌∙◌, inl, inr, arith}
-use Rattle.std.proofs.lemmas.List.{append_assoc, append-nil, length-take-le, set-append_right, drop-set-add, take_more, drop_more, set_at, take_all, drop_all, length-set, length-take, length-drop, length-append, get_or_append_left, get_or-take, drop-take}
+use Rattle.std.proofs.Common.{◌≡◌, ℕ, ◌+◌, ◌-◌, ◌<◌, ◌≤◌, ◌⊎◌, List, [], ◌++◌, length, get_or, take, drop, set, Some, None, Option, sym, refl, ap, ◌∙◌, inl, inr, arith}
+use Rattle.std.proofs.lemmas.List.{append-nil, take_all, drop_all, length-set, length-take, length-drop, length-append, get_or_append_left, get_or-take, drop-take}
 use Rattle.std.proofs.lemmas.Slice.{take-put_mid_below, drop-put_mid, between-put_mid}
-use Rattle.std.proofs.lemmas.Bool.{cond-true, cond-false, ltb-false}
 use Rattle.store.specs.Overwriting.{part, overwritten, overwritten_at}
 use Rattle.store.specs.declared.power.Power.{Power}
-
--- the byte that is caught
-pub caught : (new old : List ℕ) (i z : ℕ) → i < length new → set (take i new ++ drop i old) i z ≡ take i new ++ drop i (set old i z)
-caught new old i z h =
-    let long : length (take i new) ≡ i = length-take-le i new (omega arith) in
-    let here : i - i ≡ 0 = omega arith in
-    let there : i + 0 ≡ i = omega arith in
-    let e : drop i (set old (i + 0) z) ≡ set (drop i old) 0 z = drop-set-add i old 0 z in
-    set-append_right (take i new) (drop i old) i i z long (omega arith)
-    ∙ ap (λ (k : ℕ). take i new ++ set (drop i old) k z) here
-    ∙ ap (λ (ys : List ℕ). take i new ++ ys) (sym e ∙ ap (λ (k : ℕ). drop i (set old k z)) there)
-
--- one byte more
-pub one_more : (new old : List ℕ) (i : ℕ) → i < length new → length old ≡ length new → set (take i new ++ drop i old) i (get_or new i 0) ≡ take (i + 1) new ++ drop (i + 1) old
-one_more new old i h long =
-    let v : ℕ = get_or new i 0 in
-    ap (λ (ys : List ℕ). set (take i new ++ ys) i v) (drop_more old i 0 (omega arith))
-    ∙ set_at (take i new) (get_or old i 0) (drop (i + 1) old) v i (length-take-le i new (omega arith))
-    ∙ sym (ap (λ (xs : List ℕ). xs ++ drop (i + 1) old) (take_more new i 0 h) ∙ append_assoc (take i new) (v ∷ []) (drop (i + 1) old))
 
 -- the budget reaches all
 pub all_new : (new old : List ℕ) (n b z : ℕ) → length new ≤ n → length new ≤ b → length old ≡ length new → take n new ++ drop n old ≡ take b new ++ drop b (set old b z)
@@ -33,22 +13,6 @@ all_new new old n b z h k long =
     let x' : take b new ≡ new = take_all b new k in
     let y' : drop b (set old b z) ≡ [] = drop_all b (set old b z) (rw length-set (omega arith)) in
     cc
-
--- the same as the byte writer gives them
-module _ (part after new old : List ℕ) (i b z : ℕ) (so_far : part ≡ take i new ++ drop i old) (inside : i < length new) (long : length old ≡ length new)
-    (put : after ≡ set part i (cond (ltb i b) (get_or new i 0) z)) where
-  pub put_landed : ltb i b ≡ true → after ≡ take (i + 1) new ++ drop (i + 1) old
-  put_landed t =
-      let v : cond (ltb i b) (get_or new i 0) z ≡ get_or new i 0 = cond-true (ltb i b) (get_or new i 0) z t in
-      let e : set (take i new ++ drop i old) i (get_or new i 0) ≡ take (i + 1) new ++ drop (i + 1) old = one_more new old i inside long in
-      cc
-
-  pub put_caught : ltb i b ≡ false → i ≤ b → after ≡ take b new ++ drop b (set old b z)
-  put_caught t within =
-      let v : cond (ltb i b) (get_or new i 0) z ≡ z = cond-false (ltb i b) (get_or new i 0) z t in
-      let at : i ≡ b = omega (arith, ltb-false i b t) in
-      let e : set (take i new ++ drop i old) i z ≡ take i new ++ drop i (set old i z) = caught new old i z inside in
-      cc
 
 -- Overwriting keeps the length, and where the budget reaches all it gives the new bytes.
 pub length-overwritten : (power : Power) (new old : List ℕ) → length old ≡ length new → length (overwritten power new old) ≡ length old

@@ -1,7 +1,5 @@
 -- A bank means the list of its stores. Stores are numbered from 0.
 use Rattle.std.specs.Prelude.{◌≡◌, ℕ, ◌-◌, Bool, true, false, cond, ◌&&◌, List, [], ◌∷◌, length, Some, None, Option, nat_lt, slice_index_or, slice_set}
-use Rattle.store.specs.declared.pair.Place.{Place}
-use Rattle.store.specs.declared.pair.Place.TheVariants.{Left, Right}
 use Rattle.protocol.specs.declared.change.Change.{Change}
 use Rattle.store.specs.declared.power.Power.{Power}
 use Rattle.store.specs.Stores.{Meaning, zeros, finishes, after_write}
@@ -35,6 +33,7 @@ pub record BankWritten (before : List Meaning) (at : ℕ) (change : Change ℕ) 
   pub allowed : (store_at before at).may_keep change power keeps_new ≡ true
   pub same : after ≡ slice_set before at (after_write (store_at before at) change power keeps_new)
 
--- the store with this number in a pair of banks: the left one's stores come first
-abbrev pub place_in_pair : (left at : ℕ) → Place
-place_in_pair left at = cond (nat_lt at left) (Left at) (Right (at - left))
+-- The number in the right bank of the store `at` of a pair, whose left bank has `left` stores: those
+-- come first, and none says that it is one of them.
+abbrev pub number_on_right : (left at : ℕ) → Option ℕ
+number_on_right left at = cond (nat_lt at left) None (Some (at - left))

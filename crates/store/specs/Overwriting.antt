@@ -1,5 +1,5 @@
 -- Bytes that are written one by one, under a power that may cut them short.
-use Rattle.std.specs.Prelude.{ℕ, ◌-◌, cond, List, ◌++◌, length, take, drop, Some, None, Option, nat_le, slice_set}
+use Rattle.std.specs.Prelude.{ℕ, ◌-◌, cond, List, ◌++◌, length, take, drop, Some, None, Option, nat_le, slice_set, Bool, ◌%◌, ◌||◌, ◌==◌}
 use Rattle.store.specs.declared.power.Power.{Power}
 
 -- so many bytes from a place on
@@ -21,3 +21,7 @@ abbrev pub overwritten_at : Option Power → (place : ℕ) → (new bytes : List
 overwritten_at None place new bytes = bytes
 overwritten_at (Some power) place new bytes =
     take place bytes ++ (overwritten power new (part place (length new) bytes) ++ drop (length new) (drop place bytes))
+
+-- whether the last byte write lands: where it is caught, it does with an odd residue
+abbrev pub lands : Power → Bool
+lands power = nat_le 1 power.budget || power.residue % 2 == 1

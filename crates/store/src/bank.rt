@@ -15,7 +15,7 @@ pub trait Bank {
     /// What holds of every store.
     ghost lawful: { (s : Self) → AllByRecursion Lawful (meaning s) };
 
-    /// How many stores there are, or `u32::MAX` for more.
+    /// How many stores there are, or `u32::MAX` for more: it saturates, as a sum of counts does.
     fn count(&self) -> u32
         ensures { result ≡ min (length (meaning self.now)) most_counted };
 
@@ -32,7 +32,7 @@ pub trait Bank {
         ensures value { result ≡ asked (λ store. store.content) (meaning self.old) at }
         ensures same { meaning self.new ≡ meaning self.old };
 
-    /// Makes a change in the store, and answers whether the write finished.
+    /// Makes a change in the store, and answers whether the write finished: a `bool`, as a store's.
     fn write(&mut self, at: u16, change: Change, power: Power) -> Option<bool>
         ensures { BankWritten (meaning self.old) at change power result (meaning self.new) };
 }

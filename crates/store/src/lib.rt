@@ -4,6 +4,7 @@
 
 mod bank;
 mod pair;
+mod parts;
 mod plain;
 mod power;
 mod ring;

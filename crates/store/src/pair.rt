@@ -1,7 +1,7 @@
 //! Two banks side by side.
-ghost use Rattle.std.specs.Prelude.{◌≡◌, ◌+◌, min, ◌&&◌, ◌++◌};
+ghost use Rattle.std.specs.Prelude.{◌≡◌, ◌++◌};
 ghost use Rattle.std.proofs.ByRecursion.{All-append};
-ghost use Rattle.store.specs.Banks.{most_counted, place_in_pair};
+ghost use Rattle.store.specs.Banks.{number_on_right};
 ghost use Rattle.store.specs.Stores.{Lawful};
 
 use crate::bank::Bank;
@@ -15,36 +15,12 @@ pub struct Pair<L, R> {
     pub right: R,
 }
 
-/// A store of a pair: the bank that has it, and its number there.
-#[derive(Clone, Copy)]
-enum Place {
-    Left(u16),
-    Right(u16),
-}
-
-/// Where the store `at` of a pair stands, if the left bank says that it has `left` stores.
-fn locate(at: u16, left: u32) -> Place
-    ensures { result ≡ place_in_pair left at }
+/// The number in the right bank of the store `at` of a pair, or `None` where that is one of the
+/// left bank's `left` stores.
+fn number_on_right(left: u32, at: u16) -> Option<u16>
+    ensures { result ≡ number_on_right left at }
 {
-    if u32::from(at) < left {
-        Place::Left(at)
-    } else {
-        Place::Right(at - left as u16)
-    }
-}
-
-/// The number of stores on both sides.
-fn together(left: u32, right: u32) -> u32
-    ensures { result ≡ min (left + right) most_counted }
-{
-    left.saturating_add(right)
-}
-
-/// Whether both sides are sound.
-fn both(left: bool, right: bool) -> bool
-    ensures { result ≡ (left && right) }
-{
-    left & right
+    u32::from(at).checked_sub(left).map(|at| at as u16)
 }
 
 impl<L: Bank, R: Bank> Bank for Pair<L, R> {
@@ -53,31 +29,34 @@ impl<L: Bank, R: Bank> Bank for Pair<L, R> {
     ghost lawful = { λ b. All-append Lawful (L.Bank.meaning b.left) (R.Bank.meaning b.right) (L.Bank.lawful b.left) (R.Bank.lawful b.right) };
 
     fn count(&self) -> u32 {
-        together(self.left.count(), self.right.count())
+        self.left.count().saturating_add(self.right.count())
     }
 
+    // The three calls by number differ in what they call: a closure for each side would be longer.
     fn is_sound(&self, at: u16) -> Option<bool> {
-        match locate(at, self.left.count()) {
-            Place::Left(at) => self.left.is_sound(at),
-            Place::Right(at) => self.right.is_sound(at),
+        match number_on_right(self.left.count(), at) {
+            None => self.left.is_sound(at),
+            Some(at) => self.right.is_sound(at),
         }
     }
 
+    #[tactic(auto, using(crate::proofs::Sides::all_sound_append))]
     fn all_sound(&self) -> bool {
-        both(self.left.all_sound(), self.right.all_sound())
+        self.left.all_sound() && self.right.all_sound()
     }
 
     fn read(&mut self, at: u16) -> Option<Record> {
-        match locate(at, self.left.count()) {
-            Place::Left(at) => self.left.read(at),
-            Place::Right(at) => self.right.read(at),
+        match number_on_right(self.left.count(), at) {
+            None => self.left.read(at),
+            Some(at) => self.right.read(at),
         }
     }
 
+    #[tactic(auto, using(crate::proofs::Sides::written_left, crate::proofs::Sides::written_right))]
     fn write(&mut self, at: u16, change: Change, power: Power) -> Option<bool> {
-        match locate(at, self.left.count()) {
-            Place::Left(at) => self.left.write(at, change, power),
-            Place::Right(at) => self.right.write(at, change, power),
+        match number_on_right(self.left.count(), at) {
+            None => self.left.write(at, change, power),
+            Some(at) => self.right.write(at, change, power),
         }
     }
 }

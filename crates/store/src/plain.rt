@@ -36,10 +36,9 @@ impl Store for PlainStore {
     }
 
     fn write(&mut self, change: Change, power: Power) -> bool {
-        let finished = power.budget >= 1;
-        if finished || power.residue % 2 == 1 {
+        if power.lands() {
             self.content = change.apply(self.content);
         }
-        finished
+        power.budget >= 1
     }
 }

@@ -6,3 +6,15 @@ pub struct Power {
     pub budget: u16,
     pub residue: u8,
 }
+
+impl Power {
+    ghost use Rattle.std.specs.Prelude.{◌≡◌};
+    ghost use Rattle.store.specs.Overwriting.{lands};
+
+    // Whether the last byte write lands: where it is caught, it does with an odd residue.
+    pub(crate) fn lands(self) -> bool
+        ensures { result ≡ lands self }
+    {
+        self.budget >= 1 || self.residue % 2 == 1
+    }
+}

@@ -1,12 +1,11 @@
 //! A store over lent bytes that fills its slots in turn, so that a cut never touches the current record.
 ghost use Rattle.std.specs.Prelude.{◌≡◌};
 ghost use Rattle.store.specs.Laws.{ring_lawful};
-ghost use Rattle.store.specs.Ring.{ring, after_change};
-ghost use Rattle.store.specs.Stores.{Written};
+ghost use Rattle.store.specs.Ring.{ring, Rewritten};
 ghost use Rattle.protocol.specs.declared.change.Change.TheVariants.{Term as ChangeTerm, Accept as ChangeAccept, Mark as ChangeMark};
 
 use crate::power::Power;
-use crate::ring_bytes::{read_header, read_ring, write_ring};
+use crate::ring_bytes::{Ring, read_ring, write_ring};
 use crate::store::Store;
 use protocol::{Accepted, Change, Record, Term};
 
@@ -32,7 +31,7 @@ impl<'a> Store for RingStore<'a> {
     ghost lawful = { λ s. ring_lawful s.bytes.now };
 
     fn is_sound(&self) -> bool {
-        read_header(self.bytes).is_some()
+        Ring::open(self.bytes).is_some()
     }
 
     fn read(&mut self) -> Record
@@ -41,38 +40,33 @@ impl<'a> Store for RingStore<'a> {
         ensures bytes { self.new.bytes.now ≡ self.old.bytes.now }
         ensures lender { self.new.bytes.ghost_name ≡ self.old.bytes.ghost_name }
     {
+        // Reborrowed by hand: with `read_ring(self.bytes)` the proof that the bytes stay did not close.
         let bytes = &mut *self.bytes;
         read_ring(bytes)
     }
 
     fn write(&mut self, change: Change, power: Power) -> bool
-        ensures written { Written (ring self.old.bytes.now) change power result (ring self.new.bytes.now) }
-        ensures bytes { self.new.bytes.now ≡ after_change change power self.old.bytes.now }
-        ensures lender { self.new.bytes.ghost_name ≡ self.old.bytes.ghost_name }
+        ensures { Rewritten self.old change power result self.new }
     {
         write_ring(self.bytes, change, power)
     }
 
+    // These three repeat the trait's bodies: a provided one is proved from the trait's clauses, which
+    // say nothing of bytes.
     fn set_term(&mut self, term: Term, power: Power) -> bool
-        ensures written { Written (ring self.old.bytes.now) (ChangeTerm term) power result (ring self.new.bytes.now) }
-        ensures bytes { self.new.bytes.now ≡ after_change (ChangeTerm term) power self.old.bytes.now }
-        ensures lender { self.new.bytes.ghost_name ≡ self.old.bytes.ghost_name }
+        ensures { Rewritten self.old (ChangeTerm term) power result self.new }
     {
         self.write(Change::Term(term), power)
     }
 
     fn accept(&mut self, accepted: Accepted, power: Power) -> bool
-        ensures written { Written (ring self.old.bytes.now) (ChangeAccept accepted) power result (ring self.new.bytes.now) }
-        ensures bytes { self.new.bytes.now ≡ after_change (ChangeAccept accepted) power self.old.bytes.now }
-        ensures lender { self.new.bytes.ghost_name ≡ self.old.bytes.ghost_name }
+        ensures { Rewritten self.old (ChangeAccept accepted) power result self.new }
     {
         self.write(Change::Accept(accepted), power)
     }
 
     fn mark(&mut self, power: Power) -> bool
-        ensures written { Written (ring self.old.bytes.now) ChangeMark power result (ring self.new.bytes.now) }
-        ensures bytes { self.new.bytes.now ≡ after_change ChangeMark power self.old.bytes.now }
-        ensures lender { self.new.bytes.ghost_name ≡ self.old.bytes.ghost_name }
+        ensures { Rewritten self.old ChangeMark power result self.new }
     {
         self.write(Change::Mark, power)
     }

@@ -22,16 +22,15 @@ impl<S: Store> Bank for Single<S> {
     }
 
     fn is_sound(&self, at: u16) -> Option<bool> {
-        match at {
-            0 => Some(self.store.is_sound()),
-            _ => None,
-        }
+        (at == 0).then(|| self.store.is_sound())
     }
 
     fn all_sound(&self) -> bool {
         self.store.is_sound()
     }
 
+    // Here and below a `match`: with `(at == 0).then(..)` the proof did not close, since of a closure
+    // that changes the store it knows no more what the store means.
     fn read(&mut self, at: u16) -> Option<Record> {
         match at {
             0 => Some(self.store.read()),

@@ -1,6 +1,6 @@
 //! A record as the bytes of a slot: its term, and its state, which is the five other numbers.
-ghost use Rattle.std.specs.Prelude.{◌≡◌, ◌+◌, ◌≤◌, length};
-ghost use Rattle.store.specs.Slots.{term_size, state_size, two, four, record_of, state_bytes, ReadsBack};
+ghost use Rattle.std.specs.Prelude.{◌≡◌};
+ghost use Rattle.store.specs.Slots.{record_of, state_bytes, ReadsBack};
 
 use protocol::Record;
 use quorum::NodeSet;
@@ -10,36 +10,42 @@ pub(crate) const TERM: usize = 4;
 
 pub(crate) const STATE: usize = 16;
 
-fn read_two(bytes: &[u8], at: usize) -> u16
-    requires { at + 2 ≤ length bytes.now }
-    ensures { result ≡ two bytes.now at }
-{
-    u16::from_be_bytes([bytes[at], bytes[at + 1]])
-}
-
-fn read_four(bytes: &[u8], at: usize) -> u32
-    requires { at + 4 ≤ length bytes.now }
-    ensures { result ≡ four bytes.now at }
-{
-    u32::from_be_bytes([bytes[at], bytes[at + 1], bytes[at + 2], bytes[at + 3]])
-}
-
 /// The record that a slot's term and state stand for.
-pub(crate) fn decode(term: &[u8], state: &[u8]) -> Record
-    requires { (length term.now ≡ term_size) × (length state.now ≡ state_size) }
+// No `From`, here and below: a slot has its term and its state in two places.
+pub(crate) fn decode(term: &[u8; TERM], state: &[u8; STATE]) -> Record
     ensures { result ≡ record_of term.now state.now }
 {
+    let [
+        t0,
+        t1,
+        t2,
+        t3,
+        n0,
+        n1,
+        n2,
+        n3,
+        v0,
+        v1,
+        v2,
+        v3,
+        a0,
+        a1,
+        c0,
+        c1,
+    ] = *state;
     Record {
-        current_term: read_four(term, 0),
-        last_accepted_term: read_four(state, 0),
-        last_accepted_version: read_four(state, 4),
-        last_accepted_value: read_four(state, 8),
-        last_accepted_configuration: NodeSet::from_bits(read_two(state, 12)),
-        last_committed_configuration: NodeSet::from_bits(read_two(state, 14)),
+        current_term: u32::from_be_bytes(*term),
+        last_accepted_term: u32::from_be_bytes([t0, t1, t2, t3]),
+        last_accepted_version: u32::from_be_bytes([n0, n1, n2, n3]),
+        last_accepted_value: u32::from_be_bytes([v0, v1, v2, v3]),
+        last_accepted_configuration: NodeSet::from_bits(u16::from_be_bytes([a0, a1])),
+        last_committed_configuration: NodeSet::from_bits(u16::from_be_bytes([c0, c1])),
     }
 }
 
 /// The state of a record: all but its current term.
+// `back` goes up from here to the ring: that the numbers fit their bytes is known of code's numbers
+// alone.
 pub(crate) fn encode_state(content: Record) -> [u8; STATE]
     ensures bytes { result ≡ state_bytes content }
     ensures back { ReadsBack content }

@@ -24,6 +24,8 @@ pub trait Store {
         ensures same { meaning self.new ≡ meaning self.old };
 
     /// Makes a change, and answers whether the write finished.
+    // A `bool`, and no error: an unfinished write leaves a whole record too, and the definitions
+    // speak of both answers alike.
     fn write(&mut self, change: Change, power: Power) -> bool
         ensures written { Written (meaning self.old) change power result (meaning self.new) };
 

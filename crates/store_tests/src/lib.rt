@@ -9,7 +9,7 @@ mod vec_bank;
 
 pub use fickle::FickleStore;
 pub use generic::write_and_read;
-pub use pinned::{cut_evenly, cut_oddly, cut_on_the_right, cut_ring};
+pub use pinned::{cut_on_the_right, cut_plain, cut_ring};
 pub use vec_bank::VecBank;
 
 #[cfg(test)]

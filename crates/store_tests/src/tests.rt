@@ -1,4 +1,5 @@
 use crate::fickle::FickleStore;
+use crate::pinned::single;
 use crate::vec_bank::VecBank;
 use protocol::{Accepted, Change, Record};
 use quorum::NodeSet;
@@ -11,15 +12,12 @@ const FULL: Power = Power {
     residue: 1,
 };
 
-fn zeros() -> Record {
-    Record {
-        current_term: 0,
-        last_accepted_term: 0,
-        last_accepted_version: 0,
-        last_accepted_value: 0,
-        last_accepted_configuration: NodeSet::empty(),
-        last_committed_configuration: NodeSet::empty(),
-    }
+/// A sound ring of two slots that holds zeros.
+fn ring_of_zeros() -> [u8; 43] {
+    let mut bytes = [0; 43];
+    bytes[0] = 2;
+    bytes[1] = 16;
+    bytes
 }
 
 fn accepted() -> Accepted {
@@ -34,18 +32,18 @@ fn accepted() -> Accepted {
 
 /// Zeros behind this header make an unsound ring, which reads as zeros, and no write touches a byte.
 fn is_unsound(rt: &impl Abort, bytes: &mut [u8], header: [u8; 3]) {
-    for i in 0..bytes.len().min(3) {
-        bytes[i] = header[i];
+    for (byte, new) in bytes.iter_mut().zip(header) {
+        *byte = new;
     }
     let mut ring = RingStore::new(&mut *bytes);
     assert!(rt; !ring.is_sound());
-    assert_eq!(rt; ring.read(), zeros());
+    assert_eq!(rt; ring.read(), Record::default());
     assert!(rt; !ring.set_term(9, FULL));
     assert!(rt; !ring.accept(accepted(), FULL));
     assert!(rt; !ring.mark(FULL));
-    assert_eq!(rt; ring.read(), zeros());
-    for i in 0..bytes.len() {
-        assert!(rt; bytes[i] == if i < 3 { header[i] } else { 0 });
+    assert_eq!(rt; ring.read(), Record::default());
+    for (place, byte) in bytes.iter().enumerate() {
+        assert_eq!(rt; *byte, header.get(place).copied().unwrap_or(0));
     }
 }
 
@@ -74,9 +72,7 @@ fn short_long_and_empty(rt: HostRuntime) {
 
 #[test]
 fn budget_of_the_write_size_finishes(rt: HostRuntime) {
-    let mut bytes = [0u8; 43];
-    bytes[0] = 2;
-    bytes[1] = 16;
+    let mut bytes = ring_of_zeros();
     let mut ring = RingStore::new(&mut bytes);
     let power = Power {
         budget: 21,
@@ -94,30 +90,27 @@ fn a_foreign_store_keeps_either_record(rt: HostRuntime) {
         budget: 6,
         residue: 0,
     };
-    let mut store = FickleStore::new(zeros());
+    let mut store = FickleStore::new(Record::default());
     assert!(rt; !store.set_term(5, cut));
     assert_eq!(rt; store.read().current_term, 0);
     assert!(rt; !store.set_term(5, cut));
     assert_eq!(rt; store.read().current_term, 5);
 }
 
+/// The current term in a store of the bank, if it is there.
+fn current_term(bank: &mut impl Bank, at: u16) -> Option<u32> {
+    bank.read(at).map(|record| record.current_term)
+}
+
 #[test]
-fn a_plain_store_beside_two_rings(rt: HostRuntime) -> Result<(), Fail> {
-    let mut first = [0u8; 43];
-    first[0] = 2;
-    first[1] = 16;
-    let mut second = [0u8; 3];
+fn a_plain_store_beside_two_rings(rt: HostRuntime) {
+    let mut first = ring_of_zeros();
+    let mut second = [0; 3];
     let mut bank = Pair {
-        left: Single {
-            store: PlainStore::new(zeros()),
-        },
+        left: single(PlainStore::new(Record::default())),
         right: Pair {
-            left: Single {
-                store: RingStore::new(&mut first),
-            },
-            right: Single {
-                store: RingStore::new(&mut second),
-            },
+            left: single(RingStore::new(&mut first)),
+            right: single(RingStore::new(&mut second)),
         },
     };
     assert!(rt; bank.count() == 3);
@@ -128,34 +121,26 @@ fn a_plain_store_beside_two_rings(rt: HostRuntime) -> Result<(), Fail> {
     assert_eq!(rt; bank.write(1, Change::Term(8), FULL), Some(true));
     assert_eq!(rt; bank.write(2, Change::Term(8), FULL), Some(false));
     assert_eq!(rt; bank.write(3, Change::Term(8), FULL), None);
-    let Some(plain) = bank.read(0) else {
-        return Err(Fail::new("no store 0"));
-    };
-    assert_eq!(rt; plain.current_term, 0);
-    let Some(ring) = bank.read(1) else {
-        return Err(Fail::new("no store 1"));
-    };
-    assert_eq!(rt; ring.current_term, 8);
-    Ok(())
+    assert_eq!(rt; current_term(&mut bank, 0), Some(0));
+    assert_eq!(rt; current_term(&mut bank, 1), Some(8));
 }
 
 #[test]
 fn a_foreign_bank_beside_ours(rt: HostRuntime) -> Result<(), Fail> {
-    let stores = [FickleStore::new(zeros()), FickleStore::new(zeros())].to_vec(rt.alloc())?;
+    let stores = [
+        FickleStore::new(Record::default()),
+        FickleStore::new(Record::default()),
+    ]
+    .to_vec(rt.alloc())?;
     let mut bank = Pair {
         left: VecBank { stores },
-        right: Single {
-            store: PlainStore::new(zeros()),
-        },
+        right: single(PlainStore::new(Record::default())),
     };
     assert!(rt; bank.count() == 3);
     assert!(rt; bank.all_sound());
     assert_eq!(rt; bank.write(1, Change::Term(8), FULL), Some(true));
     assert_eq!(rt; bank.write(2, Change::Term(9), FULL), Some(true));
-    let Some(right) = bank.read(2) else {
-        return Err(Fail::new("no store 2"));
-    };
-    assert_eq!(rt; right.current_term, 9);
+    assert_eq!(rt; current_term(&mut bank, 2), Some(9));
     assert!(rt; bank.read(3).is_none());
     Ok(())
 }

@@ -17,45 +17,26 @@ impl<S: Store> Bank for VecBank<S> {
     ghost lawful = { λ b. each_lawful S.Store.meaning S.Store.lawful b.stores.items };
 
     fn count(&self) -> u32 {
-        match u32::try_from(self.stores.len()) {
-            Ok(count) => count,
-            Err(_) => u32::MAX,
-        }
+        u32::try_from(self.stores.len()).unwrap_or(u32::MAX)
     }
 
     fn is_sound(&self, at: u16) -> Option<bool> {
-        let at = usize::from(at);
-        if at < self.stores.len() {
-            Some(self.stores[at].is_sound())
-        } else {
-            None
-        }
+        self.stores
+            .get(usize::from(at))
+            .map(|store| store.is_sound())
     }
 
     fn all_sound(&self) -> bool {
-        for store in self.stores.as_slice() {
-            if !store.is_sound() {
-                return false;
-            }
-        }
-        true
+        self.stores.iter().all(|store| store.is_sound())
     }
 
     fn read(&mut self, at: u16) -> Option<Record> {
-        let at = usize::from(at);
-        if at < self.stores.len() {
-            Some(self.stores[at].read())
-        } else {
-            None
-        }
+        let store = self.stores.get_mut(usize::from(at))?;
+        Some(store.read())
     }
 
     fn write(&mut self, at: u16, change: Change, power: Power) -> Option<bool> {
-        let at = usize::from(at);
-        if at < self.stores.len() {
-            Some(self.stores[at].write(change, power))
-        } else {
-            None
-        }
+        let store = self.stores.get_mut(usize::from(at))?;
+        Some(store.write(change, power))
     }
 }

@@ -1,8 +1,8 @@
 //! Runs the worked run of docs/PROTOCOL.md, and prints the answer of each call.
 #![tactic(auto)]
 
-use anyhow::anyhow;
-use cluster::{Answer, Call, Turn, run};
+use anyhow::Context;
+use cluster::{Answer, Call, Setup, Turn, run};
 use protocol::{Record, Refusal, Term, Value, Version};
 use quorum::{Majority, NodeSet};
 use std::io;
@@ -30,12 +30,9 @@ fn everyone() -> NodeSet {
 /// A store with the record of a fresh node.
 fn fresh(version: Version) -> Plain {
     let content = Record {
-        current_term: 0,
-        last_accepted_term: 0,
         last_accepted_version: version,
         last_accepted_value: INITIAL_VALUE,
-        last_accepted_configuration: NodeSet::empty(),
-        last_committed_configuration: NodeSet::empty(),
+        ..Record::default()
     };
     Single {
         store: PlainStore::new(content),
@@ -116,28 +113,21 @@ fn print_answer(rt: &HostRuntime, answer: Answer) -> io::Result<()> {
     match answer {
         Ok(Some(entry)) => println!(rt; "ok {entry}"),
         Ok(None) => println!(rt; "ok -"),
-        Err(refusal) => {
-            let number = refusal.number();
-            println!(rt; "no {number}")
-        }
+        Err(refusal) => println!(rt; "no {refusal}"),
     }
 }
 
 fn main(rt: HostRuntime) -> anyhow::Result<()> {
     let mut log = [0; LOG_LENGTH];
     let mut turns = worked_run();
-    let ran = run(
-        three_stores(),
-        Majority,
-        everyone(),
-        INITIAL_VALUE,
-        CAPACITY,
-        &mut log,
-        &mut turns,
-    );
-    if ran.is_err() {
-        return Err(anyhow!("the log has not the length of its capacity"));
-    }
+    let setup = Setup {
+        rule: Majority,
+        initial_configuration: everyone(),
+        initial_value: INITIAL_VALUE,
+    };
+    run(three_stores(), setup, CAPACITY, &mut log, &mut turns)
+        .ok()
+        .context("the log has not the length of its capacity")?;
     for turn in turns {
         print_answer(&rt, turn.answer)?;
     }

@@ -10,5 +10,5 @@ abbrev pub invariant-loop-turn : goal.invariant-loop-turn
 invariant-loop-turn g l =
     (l.self.setup ≡ l.initial.self.setup)
     × (calls_in l.turns ≡ calls_in l.initial.turns)
-    × SoFar (meant g.R.VotingRule.quorum l.initial.self.setup) (with_log g.B.Bank.meaning l.initial.self l.initial.log) l.turns l.turn-index
-    (with_log g.B.Bank.meaning l.self l.log)
+    × SoFar (meant g.R.VotingRule.quorum l.initial.self.setup) (with_log g.B.Bank.meaning l.initial.self.nodes l.initial.log) l.turns l.turn-index
+    (with_log g.B.Bank.meaning l.self.nodes l.log)

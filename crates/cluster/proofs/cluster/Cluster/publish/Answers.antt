@@ -4,4 +4,4 @@ use Rattle.cluster.proofs.cluster.Cluster.publish.Goals as goal
 pub returns : goal.returns
 returns g c =
     called_by_step g.R.VotingRule.quorum g.B.Bank.meaning g.met.R.VotingRule.shared g.met.R.VotingRule.grows g.met.R.VotingRule.void
-    _ _ _ _ _ _ c.publish_step.ensures.setup c.publish_step.ensures.step
+    _ _ _ _ _ _ c.publish_step.ensures

@@ -4,4 +4,4 @@ use Rattle.cluster.proofs.cluster.Cluster.start_join.Goals as goal
 pub returns : goal.returns
 returns g c =
     called_by_step g.R.VotingRule.quorum g.B.Bank.meaning g.met.R.VotingRule.shared g.met.R.VotingRule.grows g.met.R.VotingRule.void
-    _ _ _ _ _ _ c.start_join_step.ensures.setup c.start_join_step.ensures.step
+    _ _ _ _ _ _ c.start_join_step.ensures
