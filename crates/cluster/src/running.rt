@@ -63,7 +63,8 @@ impl<B: Bank, R: VotingRule> Cluster<B, R> {
 }
 
 /// Opens a cluster over a bank, clears a log to a capacity, and carries out a list of calls, each
-/// with its own power. Bytes that cannot be cleared to the capacity are refused first, and then
+/// with its own power. After each call there is one commit per version, and later commits descend
+/// from earlier ones. Bytes that cannot be cleared to the capacity are refused first, and then
 /// nothing is touched or opened.
 pub fn run<B: Bank, R: VotingRule>(
     bank: B,
