@@ -30,6 +30,7 @@ impl NodeSet {
     }
 
     /// The set's bits, as stores and messages carry them.
+    // Named as the library's `f32::to_bits`, and beside `from_bits`.
     pub fn bits(self) -> u16
         ensures { result ≡ self.bits }
     {

@@ -5,6 +5,7 @@ ghost use Rattle.store.specs.Overwriting.{part, spent, overwritten, overwritten_
 use crate::power::Power;
 
 /// The `N` bytes from `place` on.
+// The log has one of its own: one for both would be public, and have to answer for every place.
 pub(crate) fn part_at<const N: usize>(bytes: &[u8], place: usize) -> &[u8; N]
     requires { place + N ≤ length bytes.now }
     ensures { result.now ≡ part place N bytes.now }
