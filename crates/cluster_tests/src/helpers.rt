@@ -8,19 +8,19 @@ use std::process::Abort;
 use std::test::Fail;
 use store::{Bank, Pair, PlainStore, Power, Single};
 
-pub type Plain = Single<PlainStore>;
+pub(crate) type Plain = Single<PlainStore>;
 
 /// A call, and what it must answer.
-pub type Line = (Call, Answer);
+pub(crate) type Line = (Call, Answer);
 
 /// Enough for a write to any store.
-pub const ENOUGH: Power = Power {
+pub(crate) const ENOUGH: Power = Power {
     budget: 21,
     residue: 0,
 };
 
 /// A record with these numbers, in order.
-pub fn record(
+pub(crate) fn record(
     term: Term,
     accepted_term: Term,
     version: Version,
@@ -39,12 +39,12 @@ pub fn record(
 }
 
 /// The record of a fresh node, where the initial value is 100.
-pub fn fresh(version: Version) -> Record {
+pub(crate) fn fresh(version: Version) -> Record {
     record(0, 0, version, 100, 0, 0)
 }
 
 /// The volatile values of a node that holds no votes and has started no join.
-pub fn restarted(configuration: u16) -> Volatile {
+pub(crate) fn restarted(configuration: u16) -> Volatile {
     Volatile {
         last_published_configuration: NodeSet::from_bits(configuration),
         ..Volatile::default()
@@ -52,7 +52,12 @@ pub fn restarted(configuration: u16) -> Volatile {
 }
 
 /// The volatile values of a leader.
-pub fn leading(votes: u16, version: Version, configuration: u16, publish_votes: u16) -> Volatile {
+pub(crate) fn leading(
+    votes: u16,
+    version: Version,
+    configuration: u16,
+    publish_votes: u16,
+) -> Volatile {
     Volatile {
         join_votes: NodeSet::from_bits(votes),
         started_join: true,
@@ -65,16 +70,16 @@ pub fn leading(votes: u16, version: Version, configuration: u16, publish_votes: 
 
 /// One store as a bank.
 // In both test crates: a public function of `store` would say no more than the field does.
-pub fn single<S>(store: S) -> Single<S> {
+pub(crate) fn single<S>(store: S) -> Single<S> {
     Single { store }
 }
 
-pub fn plain(record: Record) -> Plain {
+pub(crate) fn plain(record: Record) -> Plain {
     single(PlainStore::new(record))
 }
 
 /// Three fresh plain stores.
-pub fn three() -> Pair<Plain, Pair<Plain, Plain>> {
+pub(crate) fn three() -> Pair<Plain, Pair<Plain, Plain>> {
     Pair {
         left: plain(fresh(5)),
         right: Pair {
@@ -85,7 +90,7 @@ pub fn three() -> Pair<Plain, Pair<Plain, Plain>> {
 }
 
 /// Two fresh plain stores.
-pub fn two(left: Version, right: Version) -> Pair<Plain, Plain> {
+pub(crate) fn two(left: Version, right: Version) -> Pair<Plain, Plain> {
     Pair {
         left: plain(fresh(left)),
         right: plain(fresh(right)),
@@ -93,7 +98,7 @@ pub fn two(left: Version, right: Version) -> Pair<Plain, Plain> {
 }
 
 /// The bytes of a ring with two slots that holds a fresh record.
-pub fn fresh_ring(version: u8) -> [u8; 43] {
+pub(crate) fn fresh_ring(version: u8) -> [u8; 43] {
     let mut bytes = [0; 43];
     bytes[0] = 2;
     bytes[1] = 16;
@@ -103,7 +108,7 @@ pub fn fresh_ring(version: u8) -> [u8; 43] {
 }
 
 /// What is fixed where the initial value is 100.
-pub fn setup<R>(configuration: u16, rule: R) -> Setup<R> {
+pub(crate) fn setup<R>(configuration: u16, rule: R) -> Setup<R> {
     Setup {
         rule,
         initial_configuration: NodeSet::from_bits(configuration),
@@ -111,25 +116,25 @@ pub fn setup<R>(configuration: u16, rule: R) -> Setup<R> {
     }
 }
 
-pub fn open<B: Bank>(bank: B, configuration: u16) -> Cluster<B, Majority> {
+pub(crate) fn open<B: Bank>(bank: B, configuration: u16) -> Cluster<B, Majority> {
     Cluster::open(bank, setup(configuration, Majority))
 }
 
 /// A cleared log.
-pub fn empty_log(heap: Global, capacity: u16) -> Result<Vec<u8>, Fail> {
+pub(crate) fn empty_log(heap: Global, capacity: u16) -> Result<Vec<u8>, Fail> {
     let mut log = vec![in heap; 0; 4 + 27 * usize::from(capacity)]?;
     clear(&mut log, capacity)?;
     Ok(log)
 }
 
-pub fn bootstrap(node: u8) -> Call {
+pub(crate) fn bootstrap(node: u8) -> Call {
     Call::Bootstrap {
         node,
         power: ENOUGH,
     }
 }
 
-pub fn join(node: u8, leader: u8, term: Term) -> Call {
+pub(crate) fn join(node: u8, leader: u8, term: Term) -> Call {
     Call::StartJoin {
         node,
         leader,
@@ -138,7 +143,13 @@ pub fn join(node: u8, leader: u8, term: Term) -> Call {
     }
 }
 
-pub fn publish(node: u8, term: Term, version: Version, value: Value, configuration: u16) -> Call {
+pub(crate) fn publish(
+    node: u8,
+    term: Term,
+    version: Version,
+    value: Value,
+    configuration: u16,
+) -> Call {
     Call::Publish {
         node,
         term,
@@ -148,7 +159,7 @@ pub fn publish(node: u8, term: Term, version: Version, value: Value, configurati
     }
 }
 
-pub fn deliver(entry: u16, node: u8) -> Call {
+pub(crate) fn deliver(entry: u16, node: u8) -> Call {
     Call::Deliver {
         entry,
         node,
@@ -156,12 +167,12 @@ pub fn deliver(entry: u16, node: u8) -> Call {
     }
 }
 
-pub fn restart(node: u8) -> Call {
+pub(crate) fn restart(node: u8) -> Call {
     Call::Restart { node }
 }
 
 /// Makes the calls, and compares each answer.
-pub fn play<B: Bank, R: VotingRule>(
+pub(crate) fn play<B: Bank, R: VotingRule>(
     rt: &impl Abort,
     cluster: &mut Cluster<B, R>,
     log: &mut [u8],
@@ -173,7 +184,7 @@ pub fn play<B: Bank, R: VotingRule>(
 }
 
 /// The call is refused, and the log and three nodes stay as they are.
-pub fn refused<B: Bank>(
+pub(crate) fn refused<B: Bank>(
     rt: &(impl Abort + AllocGlobal),
     cluster: &mut Cluster<B, Majority>,
     log: &mut [u8],
@@ -191,7 +202,7 @@ pub fn refused<B: Bank>(
 }
 
 /// Two nodes elect node 0 in term 1.
-pub fn election() -> [Line; 6] {
+pub(crate) fn election() -> [Line; 6] {
     [
         (bootstrap(0), Ok(None)),
         (bootstrap(1), Ok(None)),
@@ -202,6 +213,6 @@ pub fn election() -> [Line; 6] {
     ]
 }
 
-pub fn state(kept: Record, volatile: Volatile) -> NodeState {
+pub(crate) fn state(kept: Record, volatile: Volatile) -> NodeState {
     NodeState { kept, volatile }
 }
