@@ -5,6 +5,10 @@ use Rattle.protocol.proofs.Log.{impossible}
 use Rattle.protocol.specs.declared.refusal.Refusal.{Refusal}
 use Rattle.protocol.specs.Decisions.{Test, checked, decided}
 
+-- the first test that holds refuses, and then the effect follows: the same in one step or in two
+pub decided-checked : {X : Type 0} (tests : List Test) (x : X) → decided tests x ≡ checked tests (Ok x)
+decided-checked tests x = refl
+
 -- tests that let y pass as x go on to what comes next at y
 pub passed_on : {X Z : Type 0} (tests : List Test) (x y : X) (next : X → Result Z Refusal) → Ok y ≡ decided tests x → next y ≡ checked tests (next x)
 passed_on [] x y next h = let e : y ≡ x = cc in ap next e

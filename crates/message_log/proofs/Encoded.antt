@@ -1,24 +1,26 @@
 -- A log that is the encoding of a list of messages: what it reads as, and one message more.
-use Rattle.std.proofs.Common.{◌≡◌, ℕ, suc, ◌<◌, Bool, true, false, cond, ◌==◌, List, [], ◌∷◌, ◌++◌, map, length, is_some, Some, None, Ok, Err, Option, Result, sym, refl, ap, ◌∙◌, ap₂}
-use Rattle.std.specs.List.{AllByRecursion}
+use Rattle.std.proofs.Common.{◌≡◌, ℕ, zero, suc, ◌<◌, ◌≤◌, Bool, true, false, cond, ◌==◌, ltb, List, [], ◌∷◌, ◌++◌, map, length, get_or, is_some, Some, None, Ok, Err, Option, Result, sym, refl, ap, ◌∙◌, ap₂, ⊎_elim, arith}
+use Rattle.std.specs.List.{slice_get, AllByRecursion}
 use Rattle.std.specs.Option.{option_map}
-use Rattle.std.proofs.lemmas.List.FromFn.{length-map-range_with_len}
+use Rattle.std.proofs.lemmas.List.FromFn.{length-map-range_with_len, get_or-map-range_with_len}
 use Rattle.std.proofs.lemmas.Slice.Eq.{bytes_eq-Decides}
 use Rattle.std.proofs.lemmas.List.{length-map, map_push}
-use Rattle.std.proofs.lemmas.Bool.{and_parts, eqb-true, cond-false, false≢true}
+use Rattle.std.proofs.lemmas.Option.{slice_get-get_or, slice_get_past}
+use Rattle.std.proofs.lemmas.Bool.{and_parts, eqb-true, cond-true, cond-false, lt-ltb, le-ltb, cases_lt, false≢true}
 use Rattle.protocol.specs.declared.kind.Kind.{Kind}
 use Rattle.protocol.specs.declared.kind.Kind.TheVariants as kind
 use Rattle.protocol.specs.declared.message.Message.{Message}
 use Rattle.protocol.specs.declared.refusal.Refusal.{Refusal}
+use Rattle.protocol.specs.declared.refusal.Refusal.TheVariants.{NoSuchEntry}
 use Rattle.protocol.specs.Kinds.{kind_number, kind_of_number}
 use Rattle.protocol.specs.Messages.{kind_of, legal_message}
 use Rattle.protocol.specs.Positions.{position}
 use Rattle.message_log.specs.declared.fault.Fault.{Fault}
 use Rattle.message_log.specs.Body.{fields_in}
 use Rattle.message_log.specs.Faults.{refusal_of}
-use Rattle.message_log.specs.Layout.{legal_capacity, capacity_of, count_of}
+use Rattle.message_log.specs.Layout.{legal_capacity, well_formed, capacity_of, count_of}
 use Rattle.message_log.specs.Rules.{message_with, body_of, Fits}
-use Rattle.message_log.specs.Log.{Stored, stored_at, entries, same_stored, stored_as, added, read_as, cleared}
+use Rattle.message_log.specs.Log.{Stored, stored_at, entries, same_stored, stored_as, added, read_as, found_as, message_at, cleared}
 use Rattle.message_log.specs.Encoded.{with_all, Encodes}
 use Rattle.message_log.proofs.Adding.{holds_added, empty_log, same_itself}
 use Rattle.message_log.proofs.RoundTrip.{message_again, reads_back}
@@ -123,3 +125,49 @@ pub read_stored : (n : ℕ) (m : Message ℕ) → Fits m → legal_message n m �
 read_stored n m f h =
     ap (λ (r : Result (Message ℕ) Fault). elim r as (λ _. Result (Message ℕ) Refusal) [ Ok x ↦ Ok x | Err fault ↦ Err (refusal_of fault) ])
     (reads_back m (body_of m) refl f n h)
+
+pub all_read : (n : ℕ) (messages : List (Message ℕ)) → AllByRecursion Fits messages → AllByRecursion (λ m. legal_message n m ≡ true) messages
+    → map (read_as n) (map stored_as messages) ≡ map Ok messages
+all_read n [] f h = refl
+all_read n (m ∷ messages) f h = ap₂ ◌∷◌ (read_stored n m f.0 h.0) (all_read n messages f.1 h.1)
+
+-- the message in an entry, and that there is none past the last
+module _ (n c : ℕ) (messages : List (Message ℕ)) (bytes : List ℕ) (E : Encodes c messages bytes) where
+  looked_up : (e : ℕ) (found : Option Stored) → cond (ltb e (count_of bytes)) (Some (stored_at bytes e)) None ≡ found
+      → message_at n bytes e ≡ found_as n found
+  looked_up e found h =
+      ap (λ (r : Result (Option Stored) Fault). elim r as (λ _. Result (Message ℕ) Refusal) [ Ok o ↦ found_as n o | Err fault ↦ Err (refusal_of fault) ])
+      (cond-true (well_formed bytes) _ _ E.log ∙ ap Ok h)
+
+  pub no_message_at : (e : ℕ) → length messages ≤ e → message_at n bytes e ≡ Err NoSuchEntry
+  no_message_at e l = looked_up e None (cond-false (ltb e (count_of bytes)) _ _ (le-ltb _ _ (omega (arith, E.many))))
+
+  stored_there : (e : ℕ) → e < length messages → (d : Message ℕ) → stored_at bytes e ≡ stored_as (get_or messages e d)
+  stored_there e l d =
+      sym (get_or-map-range_with_len (stored_at bytes) 0 (count_of bytes) e e (stored_as d) (omega (arith, E.many)) (omega arith))
+      ∙ ap (λ (l : List Stored). get_or l e (stored_as d)) E.stored
+      ∙ at messages e
+    where
+      at : (ms : List (Message ℕ)) (e : ℕ) → get_or (map stored_as ms) e (stored_as d) ≡ stored_as (get_or ms e d)
+      at [] e = refl
+      at (m ∷ ms) zero = refl
+      at (m ∷ ms) (suc e) = at ms e
+
+  pub message_there : (e : ℕ) (m : Message ℕ) → slice_get messages e ≡ Some m → Fits m → legal_message n m ≡ true → message_at n bytes e ≡ Ok m
+  message_there e m h f g = ⊎_elim inside outside (cases_lt e (length messages))
+    where
+      inside : e < length messages → message_at n bytes e ≡ Ok m
+      inside l =
+          let q = slice_get-get_or messages e m l in
+          let s : Some (get_or messages e m) ≡ Some m = sym q ∙ h in
+          let is : get_or messages e m ≡ m = cc in
+          looked_up e (Some (stored_as m))
+          (cond-true (ltb e (count_of bytes)) _ _ (lt-ltb _ _ (omega (arith, E.many)))
+          ∙ ap Some (stored_there e l m ∙ ap stored_as is))
+          ∙ read_stored n m f g
+
+      outside : length messages ≤ e → message_at n bytes e ≡ Ok m
+      outside l =
+          let s : Some m ≡ None = sym h ∙ slice_get_past messages e l in
+          let z : ◌≡◌ {A = ℕ} 0 1 = cc in
+          absurd (omega arith)

@@ -2,6 +2,8 @@
 pub mod Puts
 -- reading what was written, and writing what was read
 pub mod RoundTrip
+-- numbers that fit their places come back from the body that is made of them
+pub mod NumbersBack
 -- the lowest entry that is equal to another
 pub mod Lowest
 -- what is put into bytes, read again

@@ -17,7 +17,7 @@ use Rattle.message_log.specs.Layout.{two, four, in_two, in_four}
 use Rattle.message_log.specs.Body.{fields_in, body_with}
 use Rattle.message_log.specs.Rules.{valid, read_body, read_message, message_with, fields_of, body_of, no_base, no_content, ReadsBack, WritesBack}
 
-read_valid : (n : ℕ) (k : Kind) (body : List ℕ) → length body ≡ 26 → valid n k (fields_in body) ≡ true
+pub read_valid : (n : ℕ) (k : Kind) (body : List ℕ) → length body ≡ 26 → valid n k (fields_in body) ≡ true
     → read_body n k body ≡ Ok (message_with k (fields_in body))
 unfolding read_body
 read_valid n k body l v = cond-true _ _ _ (and_from _ _ (eq-eqb _ _ l) v)

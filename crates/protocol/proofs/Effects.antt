@@ -9,6 +9,18 @@ use Rattle.protocol.specs.declared.message.Publication.{Publication}
 use Rattle.protocol.specs.declared.message.Response.{Response}
 use Rattle.protocol.specs.declared.message.Commit.{Commit}
 
+-- what a node has in memory after a restart: said here again, so that the definition of the call is held to it
+abbrev pub reset : {V : Type 0} → Record V → Volatile
+reset r =
+    record {
+      join_votes = nobody;
+      started_join = false;
+      election_won = false;
+      last_published_version = 0;
+      last_published_configuration = r.last_accepted_configuration;
+      publish_votes = nobody;
+    }
+
 -- what a node has in memory after it has started a join
 abbrev pub ready : {V : Type 0} → Record V → Volatile
 ready r =

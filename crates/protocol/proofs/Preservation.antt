@@ -18,8 +18,8 @@ use Rattle.protocol.proofs.Election.{one_leader_a_term}
 use Rattle.protocol.proofs.Ancestors.{later_terms_descend_from_chosen}
 use Rattle.protocol.proofs.Fits.{Fits}
 use Rattle.protocol.proofs.Adding.{fitting_message_keeps}
-use Rattle.protocol.specs.Decisions.{restarted}
 use Rattle.protocol.proofs.Effects.{
+  reset,
   ready,
   in_term,
   accepting,
@@ -126,7 +126,7 @@ module _ {V : Type 0} (S : Setting) {before after : State V} (I : Invariant S be
 module _ {V : Type 0} (S : Setting) (value : V) {before : State V} (I : Invariant S before) (n : ℕ) where
   -- a write, with the node reset after it
   write_keeps : (r : Record V) → Write S value before.log (stored before n) (memory before n) r
-      → NodeInvariant S before.log n r (restarted r)
+      → NodeInvariant S before.log n r (reset r)
   write_keeps r (Write.bootstrap may e) =
       rw e (reset_keeps S I.of_log (bootstrap_keeps S I.of_log (I.of_nodes n) value may))
   write_keeps r (Write.start_join t may e) =
@@ -136,7 +136,7 @@ module _ {V : Type 0} (S : Setting) (value : V) {before : State V} (I : Invarian
 
   -- an unfinished write keeps the old record or the new one
   unfinished_keeps : (written kept : Record V) → Write S value before.log (stored before n) (memory before n) written
-      → (kept ≡ stored before n) ⊎ (kept ≡ written) → NodeInvariant S before.log n kept (restarted kept)
+      → (kept ≡ stored before n) ⊎ (kept ≡ written) → NodeInvariant S before.log n kept (reset kept)
   unfinished_keeps written kept write (inl e) = rw e (reset_keeps S I.of_log (I.of_nodes n))
   unfinished_keeps written kept write (inr e) = rw e (write_keeps written write)
 

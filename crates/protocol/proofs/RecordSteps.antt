@@ -11,15 +11,14 @@ use Rattle.protocol.proofs.Certificates.{Decided, published_has}
 use Rattle.protocol.proofs.LogInvariant.{LogInvariant}
 use Rattle.protocol.proofs.NodeInvariant.{Accepted, Leads, NodeInvariant}
 use Rattle.protocol.proofs.NodeInvariant.Accepted.{nothing_yet, publication}
-use Rattle.protocol.specs.Decisions.{restarted}
-use Rattle.protocol.proofs.Effects.{ready, bootstrapped, in_term, marked}
+use Rattle.protocol.proofs.Effects.{reset, ready, bootstrapped, in_term, marked}
 use Rattle.protocol.proofs.Steps.{MayBootstrap, MayStartJoin, MayMark}
 use Rattle.protocol.proofs.Votes.{never, no_vote, no_bits}
 
 module _ {V : Type 0} (S : Setting) {log : List (Message V)} (I : LogInvariant S log) {n : ℕ} {r : Record V} {w : Volatile}
     (N : NodeInvariant S log n r w) where
   -- a restart forgets the votes
-  pub reset_keeps : NodeInvariant S log n r (restarted r)
+  pub reset_keeps : NodeInvariant S log n r (reset r)
   reset_keeps =
       record {
         joins_are_past = N.joins_are_past;

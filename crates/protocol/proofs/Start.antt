@@ -8,7 +8,8 @@ use Rattle.protocol.proofs.Log.{Has, impossible}
 use Rattle.protocol.proofs.LogInvariant.{LogInvariant}
 use Rattle.protocol.proofs.NodeInvariant.{NodeInvariant}
 use Rattle.protocol.proofs.NodeInvariant.Accepted.{nothing_yet}
-use Rattle.protocol.specs.Decisions.{NodeState, restarted}
+use Rattle.protocol.specs.Decisions.{NodeState}
+use Rattle.protocol.proofs.Effects.{reset}
 use Rattle.protocol.proofs.Steps.{State, FreshNode, Fresh}
 use Rattle.protocol.proofs.Votes.{never, no_vote, no_bits}
 use Rattle.protocol.proofs.Invariant.{Invariant}
@@ -39,7 +40,7 @@ empty_log S =
 
 -- a fresh node, its memory as after a restart
 fresh_record : {V : Type 0} (S : Setting) (n : ℕ) (s : NodeState V) → FreshNode s
-    → NodeInvariant S [] n s.kept (restarted s.kept)
+    → NodeInvariant S [] n s.kept (reset s.kept)
 fresh_record S n s f =
     record {
       joins_are_past = λ j h. nothing h;

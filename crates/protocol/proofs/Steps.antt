@@ -13,8 +13,9 @@ use Rattle.protocol.specs.declared.message.Commit.{Commit}
 use Rattle.protocol.proofs.Setting.{Setting}
 use Rattle.protocol.proofs.Log.{Has, Sent}
 use Rattle.protocol.proofs.Points.{Upto}
-use Rattle.protocol.specs.Decisions.{NodeState, restarted}
+use Rattle.protocol.specs.Decisions.{NodeState}
 use Rattle.protocol.proofs.Effects.{
+  reset,
   ready,
   bootstrapped,
   in_term,
@@ -146,13 +147,13 @@ pub data Step {V : Type 0} (S : Setting) (value : V) (before after : State V) : 
       → Moves before after n (marked (stored before n)) (memory before n)
       → after.log ≡ before.log → Step S value before after
   restart : (n : ℕ)
-      → Moves before after n (stored before n) (restarted (stored before n))
+      → Moves before after n (stored before n) (reset (stored before n))
       → after.log ≡ before.log → Step S value before after
   -- a write that a power cut broke off: the store has the record as it was or the new one, and the node is reset
   unfinished_write : (n : ℕ) (written kept : Record V)
       → Write S value before.log (stored before n) (memory before n) written
       → (kept ≡ stored before n) ⊎ (kept ≡ written)
-      → Moves before after n kept (restarted kept)
+      → Moves before after n kept (reset kept)
       → after.log ≡ before.log → Step S value before after
 
 -- A node that was never started: its terms are 0 and its configurations empty. Version and value do not matter.
@@ -161,7 +162,7 @@ pub record FreshNode {V : Type 0} (s : NodeState V) : Type 0 where
   pub no_accepted_term : s.kept.last_accepted_term ≡ 0
   pub no_configuration : s.kept.last_accepted_configuration.bits ≡ 0
   pub no_committed_configuration : s.kept.last_committed_configuration.bits ≡ 0
-  pub no_memory : s.volatile ≡ restarted s.kept
+  pub no_memory : s.volatile ≡ reset s.kept
 
 -- the state before the first step
 pub record Fresh {V : Type 0} (s : State V) : Type 0 where

@@ -16,4 +16,4 @@ pub use node_set::{MAX_NODES, NodeSet};
 pub use rule::VotingRule;
 pub use weighted::Weighted;
 pub use weights::Weights;
-pub use worked_cases::heavy_node_decides;
+pub use worked_cases::{heavy_node_decides, rules_are_as_defined};

@@ -1,4 +1,5 @@
-use Rattle.std.proofs.Common.{refl, sym, rules, ap, ◌∙◌, ℕ, Ok}
+use Rattle.std.proofs.Common.{◌≡◌, refl, sym, rules, ap, ◌∙◌, ℕ}
+use Rattle.message_log.specs.Added.{Holds}
 use Rattle.message_log.specs.Log.{added, stored_as, Outcome}
 use Rattle.message_log.proofs.Adding.{AddsNew, adds_new}
 use Rattle.message_log.proofs.appending.append.Goals as goal
@@ -13,8 +14,13 @@ returns-then-place-sizes c =
     let new : AddsNew c.args.bytes.now (stored_as c.args.message.now) c.in_ok-log.log.sizes = adds_new _ _ _ refl (search rules) (search rules) in
     let place = c.if-place-sizes.true in
     let written = c.write.ensures ∙ ap (added c.args.bytes.now) c.stored-entry.ensures in
+    let answer = ap (λ (o : Outcome ℕ). o.answer) new.outcome in
+    -- whatever number is answered, if it is the count
+    let holds_at : (x : ℕ) → x ≡ c.in_ok-log.log.sizes.count
+    → Holds c.args.bytes.now (added c.args.bytes.now (stored_as c.args.message.now)) (stored_as c.args.message.now) x =
+    λ x e. rw e new.holds in
     record {
-      answer = ap Ok place ∙ sym (ap (λ (o : Outcome ℕ). o.answer) new.outcome);
+      answer = cc;
       bytes = written ∙ sym (ap (λ (o : Outcome ℕ). o.bytes) new.outcome);
-      holds = rw (place, written) new.holds;
+      holds = rw written (holds_at _ cc);
     }
