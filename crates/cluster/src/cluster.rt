@@ -5,6 +5,7 @@ use node::Setup;
 /// A cluster of at most 16 nodes. Node `n` keeps its record in store `n` of the bank.
 #[derive(Drop)]
 pub struct Cluster<B, R> {
-    pub(crate) setup: Setup<R>,
+    // Before the setup, so that the bank is dropped first.
     pub(crate) nodes: Nodes<B>,
+    pub(crate) setup: Setup<R>,
 }
